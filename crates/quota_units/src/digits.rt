@@ -1,0 +1,20 @@
+ghost use Rattle.std.specs.Prelude.{◌≡◌};
+ghost use Rattle.quota_units.specs.Digits.{number_of};
+
+/// The number that 1 to 19 decimal digits stand for; `None` for other bytes. A sign is no digit.
+#[tactic(auto, using(crate::proofs::DigitLemmas::step, std::proofs::lemmas::List::take_all))]
+pub fn number_in(bytes: &[u8]) -> Option<u64>
+    ensures { result ≡ number_of bytes.now }
+{
+    if bytes.is_empty() || bytes.len() > 19 {
+        return None;
+    }
+    let mut value = 0u64;
+    for b in bytes {
+        if !b.is_ascii_digit() {
+            return None;
+        }
+        value = value * 10 + u64::from(*b - b'0');
+    }
+    Some(value)
+}

@@ -1,0 +1,16 @@
+//! The quantities of a mail quota: storage units, limits, totals, names, flags and decimal numbers.
+#![tactic(auto)]
+
+mod digits;
+mod flags;
+mod limits;
+mod name;
+mod totals;
+mod units;
+
+pub use digits::number_in;
+pub use flags::Flags;
+pub use limits::{LimitError, Limits, limit_of_units};
+pub use name::{Name, NameError};
+pub use totals::Totals;
+pub use units::units_up;
