@@ -1,0 +1,16 @@
+-- Which roots govern which mailbox. Maildir++ counts every folder but Trash; the roots with a prefix are this project's own.
+use Rattle.std.specs.Prelude.{ℕ, Bool, not, ◌||◌, List, ◌++◌, codes, bytes_eq, nat_eq, Option, None, Some}
+use Rattle.std.specs.List.{starts_with}
+use Rattle.quota_roots.specs.declared.root.RootSpec.{RootSpec}
+
+-- the mailbox of the prefix's name, and those below it
+abbrev pub is_under : List ℕ → List ℕ → Bool
+is_under prefix mailbox = bytes_eq mailbox prefix || starts_with nat_eq mailbox (prefix ++ codes ".")
+
+abbrev pub governs_by : Option (List ℕ) → List ℕ → Bool
+governs_by None mailbox = not (bytes_eq mailbox (codes "Trash"))
+governs_by (Some prefix) mailbox = is_under prefix mailbox
+
+-- the root governs the mailbox
+abbrev pub governs : RootSpec → List ℕ → Bool
+governs root mailbox = governs_by root.prefix mailbox
