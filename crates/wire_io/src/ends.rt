@@ -1,0 +1,78 @@
+use thiserror::Error;
+
+/// A fault outside, which the count of faults of the object that was called has seen.
+#[derive(Clone, Copy, Debug, PartialEq, Eq, Error)]
+#[error("a fault outside")]
+pub struct Failed;
+
+/// There was no memory.
+#[derive(Clone, Copy, Debug, PartialEq, Eq, Error)]
+#[error("out of memory")]
+pub struct NoMemory;
+
+/// The protocols that a mail host's quota service speaks.
+#[derive(Clone, Copy, Debug, PartialEq, Eq)]
+pub enum Wire {
+    /// IMAP QUOTA (RFC 9208).
+    Imap,
+    /// JMAP Quotas (RFC 9425) over HTTP.
+    Jmap,
+    /// The delivery policy of Postfix (SMTPD_POLICY_README).
+    Policy,
+}
+
+/// How a line of a feed ended.
+#[derive(Clone, Copy, Debug, PartialEq, Eq)]
+pub enum LineEnd {
+    /// With its line feed.
+    Whole,
+    /// Not within the most bytes that were asked for.
+    TooLong,
+}
+
+/// Why a feed handed out no more.
+#[derive(Clone, Copy, Debug, PartialEq, Eq, Error)]
+pub enum FeedEnd {
+    /// The source counted a fault.
+    #[error("the source failed")]
+    Fault,
+    /// The source ended first.
+    #[error("the source ended")]
+    Ended,
+    /// So many bytes were taken as the feed may take, and one more was needed.
+    #[error("the feed's limit is reached")]
+    Limit,
+    /// There was no memory for what is handed out.
+    #[error("out of memory")]
+    NoMemory,
+}
+
+/// What a session does after an answer.
+#[derive(Clone, Copy, Debug, PartialEq, Eq)]
+pub enum After {
+    /// It goes on.
+    Open,
+    /// It closes.
+    Closing,
+    /// It closes, and asks the server to stop.
+    Stopping,
+}
+
+/// How a session ended.
+#[derive(Clone, Copy, Debug, PartialEq, Eq)]
+pub enum SessionEnd {
+    /// The input ended between two requests, or a closing answer was written.
+    Closed,
+    /// A stopping answer was written.
+    Stopped,
+    /// The input ended inside a request whose first byte is at this offset, counted from the session's first byte.
+    Truncated { at: u64 },
+    /// So many bytes were taken as a session may take, and one more was needed.
+    InputLimit,
+    /// The source counted a fault.
+    ReadFault,
+    /// The sink counted a fault.
+    WriteFault,
+    /// There was no memory.
+    NoMemory,
+}

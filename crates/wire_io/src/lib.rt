@@ -1,0 +1,6 @@
+//! The edge to the outside: sources and sinks of bytes, the feed that hands out a source's bytes, and how a session ends.
+#![tactic(auto)]
+
+mod ends;
+
+pub use ends::{After, Failed, FeedEnd, LineEnd, NoMemory, SessionEnd, Wire};
