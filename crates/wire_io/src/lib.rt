@@ -2,5 +2,7 @@
 #![tactic(auto)]
 
 mod ends;
+mod laws;
 
 pub use ends::{After, Failed, FeedEnd, LineEnd, NoMemory, SessionEnd, Wire};
+pub use laws::each_text_has_one_cut;

@@ -1,0 +1,153 @@
+-- What a session is: requests spelled one after another, the calls that they ask for, and the texts that answer them.
+use Rattle.std.specs.Prelude.{◌≡◌, ◌≢◌, ◌⊎◌, ◌+◌, ◌<◌, ◌≤◌, ℕ, List, [], ◌∷◌, ◌++◌, length}
+use Rattle.wire_io.specs.declared.ends.After.{After}
+use Rattle.wire_io.specs.declared.ends.After.TheVariants.{Open, Closing, Stopping}
+use Rattle.wire_io.specs.declared.ends.SessionEnd.{SessionEnd}
+use Rattle.wire_io.specs.declared.ends.SessionEnd.TheVariants.{Closed, Stopped, Truncated, InputLimit, ReadFault, WriteFault, NoMemory}
+use Rattle.wire_io.specs.Work.{Does, Begins, AlwaysEnds}
+use Rattle.wire_io.specs.Protocol.{Protocol, Spelling, spelled_bytes, Spells, IsRest}
+
+-- One request of a session: its bytes, what they spell, its calls with their answers, and all that is written for it.
+pub record Exchange (Request Call Answer : Type 0) : Type 0 where
+  pub bytes : List ℕ
+  pub request : Request
+  pub log : List (Call × Answer)
+  pub text : List ℕ
+
+module _ {Request Call Answer : Type 0} where
+  abbrev pub bytes_of : List (Exchange Request Call Answer) → List ℕ
+  bytes_of [] = []
+  bytes_of (x ∷ xs) = x.bytes ++ bytes_of xs
+
+  abbrev pub log_of : List (Exchange Request Call Answer) → List (Call × Answer)
+  log_of [] = []
+  log_of (x ∷ xs) = x.log ++ log_of xs
+
+  abbrev pub text_of : List (Exchange Request Call Answer) → List ℕ
+  text_of [] = []
+  text_of (x ∷ xs) = x.text ++ text_of xs
+
+-- these are the first bytes of the others
+abbrev pub IsFront : List ℕ → List ℕ → Type 0
+IsFront front whole = (more : List ℕ) × (whole ≡ front ++ more)
+
+module _ {State Request Call Answer : Type 0} (p : Protocol State Request Call Answer) where
+  -- a request that is spelled and answered in full, and what the session does after it
+  pub record IsExchange (state : State) (x : Exchange Request Call Answer) (after : After) : Type 0 where
+    pub answer : List ℕ
+    pub spelled : Spells p state x.bytes x.request
+    pub worked : Does (p.work state x.request) x.log answer after
+    pub written : x.text ≡ p.prompts state x.bytes ++ answer
+
+  -- one after another, from one state to another, with the session going on after each
+  abbrev pub Exchanges : State → List (Exchange Request Call Answer) → State → Type 0
+  Exchanges state [] last = last ≡ state
+  Exchanges state (x ∷ xs) last = IsExchange state x Open × Exchanges (p.next state x.request) xs last
+
+  -- what came of a request: less than it, or all of it
+  abbrev pub IsComing : State → List ℕ → Type 0
+  IsComing state come = IsRest p state come ⊎ ((request : Request) × Spells p state come request)
+
+  -- the session waits for more of a request, with its prompts written
+  pub record Waits (state : State) (rest : List ℕ) (log : List (Call × Answer)) (text : List ℕ) : Type 0 where
+    pub less : IsRest p state rest
+    pub no_calls : log ≡ []
+    pub prompted : text ≡ p.prompts state rest
+
+  -- the last request is answered in full, and then the session does not go on; bytes that came after it are not looked at
+  pub record Finishes (state : State) (rest : List ℕ) (log : List (Call × Answer)) (text : List ℕ) (after : After) : Type 0 where
+    pub x : Exchange Request Call Answer
+    pub unread : List ℕ
+    pub exchange : IsExchange state x after
+    pub rest_is : rest ≡ x.bytes ++ unread
+    pub log_is : log ≡ x.log
+    pub text_is : text ≡ x.text
+
+  -- all calls of a request were made, and a front of what is written for it was
+  pub record CutInText (state : State) (rest : List ℕ) (log : List (Call × Answer)) (text : List ℕ) : Type 0 where
+    pub x : Exchange Request Call Answer
+    pub unread : List ℕ
+    pub after : After
+    pub exchange : IsExchange state x after
+    pub rest_is : rest ≡ x.bytes ++ unread
+    pub log_is : log ≡ x.log
+    pub front : IsFront text x.text
+
+  -- a front of the prompts of a request was written, of which this had come
+  pub record CutInPrompts (state : State) (rest : List ℕ) (log : List (Call × Answer)) (text : List ℕ) : Type 0 where
+    pub come : List ℕ
+    pub unread : List ℕ
+    pub coming : IsComing state come
+    pub rest_is : rest ≡ come ++ unread
+    pub no_calls : log ≡ []
+    pub front : IsFront text (p.prompts state come)
+
+  -- the prompts of a request were written, of which this had come, and at most its first calls were made
+  pub record GivesUp (state : State) (rest : List ℕ) (log : List (Call × Answer)) (text : List ℕ) : Type 0 where
+    pub come : List ℕ
+    pub unread : List ℕ
+    pub coming : IsComing state come
+    pub rest_is : rest ≡ come ++ unread
+    pub prompted : text ≡ p.prompts state come
+    pub begun : (log ≡ []) ⊎ ((request : Request) × Spells p state come request × Begins (p.work state request) log)
+
+  -- How a session ends after the requests that it outlived: by what came after them, at this place, by the calls and the text.
+  -- `nothing_left` says that the input has no more bytes.
+  abbrev pub Ends : ℕ → Type 0 → State → ℕ → List ℕ → List (Call × Answer) → List ℕ → SessionEnd → Type 0
+  Ends limit nothing_left state at rest log text Closed =
+      ((rest ≡ []) × (at < limit) × nothing_left × Waits state rest log text) ⊎ Finishes state rest log text Closing
+  Ends limit nothing_left state at rest log text Stopped = Finishes state rest log text Stopping
+  Ends limit nothing_left state at rest log text (Truncated offset) =
+      (rest ≢ []) × (at + length rest < limit) × nothing_left × (offset ≡ at) × Waits state rest log text
+  Ends limit nothing_left state at rest log text InputLimit = (at + length rest ≡ limit) × Waits state rest log text
+  Ends limit nothing_left state at rest log text ReadFault = Waits state rest log text
+  Ends limit nothing_left state at rest log text WriteFault = CutInText state rest log text ⊎ CutInPrompts state rest log text
+  Ends limit nothing_left state at rest log text NoMemory = GivesUp state rest log text
+
+  -- The bytes taken, the calls with their answers, the bytes written and the end are those of a session of the protocol.
+  pub record IsWorked (limit : ℕ) (nothing_left : Type 0) (taken : List ℕ) (log : List (Call × Answer)) (written : List ℕ) (end : SessionEnd) : Type 0 where
+    pub exchanges : List (Exchange Request Call Answer)
+    pub state : State
+    pub rest : List ℕ
+    pub last_log : List (Call × Answer)
+    pub last_text : List ℕ
+    pub outlived : Exchanges p.start exchanges state
+    pub taken_is : taken ≡ bytes_of exchanges ++ rest
+    pub within : length taken ≤ limit
+    pub log_is : log ≡ log_of exchanges ++ last_log
+    pub written_is : written ≡ p.greeting ++ (text_of exchanges ++ last_text)
+    pub ends : Ends limit nothing_left state (length (bytes_of exchanges)) rest last_log last_text end
+
+  -- or not even the greeting could be written whole, and then no request was worked
+  abbrev pub Session : ℕ → Type 0 → List ℕ → List (Call × Answer) → List ℕ → SessionEnd → Type 0
+  Session limit nothing_left taken log written end = IsWorked limit nothing_left taken log written end
+      ⊎ ((end ≡ WriteFault) × (taken ≡ []) × (log ≡ []) × IsFront written p.greeting)
+
+  -- requests one after another, after each of which the session goes on, whatever its calls are answered
+  abbrev pub Outlives : State → List (Spelling Request) → State → Type 0
+  Outlives state [] last = last ≡ state
+  Outlives state (x ∷ xs) last = Spells p state x.0 x.1 × AlwaysEnds (p.work state x.1) Open × Outlives (p.next state x.1) xs last
+
+  -- a request stands at the front of the bytes, with no more than so many, and after it the session does this, whatever its calls are answered
+  abbrev pub IsFinished : ℕ → State → List ℕ → After → Type 0
+  IsFinished most state bytes after = (own : List ℕ) × (request : Request) × (unread : List ℕ) × Spells p state own request
+      × AlwaysEnds (p.work state request) after × (bytes ≡ own ++ unread) × (length own ≤ most)
+
+  -- how the bytes behind the requests that a session outlives end it, where nothing fails
+  abbrev pub RestEnds : ℕ → State → ℕ → List ℕ → SessionEnd → Type 0
+  RestEnds limit state at bytes Closed = ((bytes ≡ []) × (at < limit)) ⊎ ((most : ℕ) × (at + most ≡ limit) × IsFinished most state bytes Closing)
+  RestEnds limit state at bytes Stopped = (most : ℕ) × (at + most ≡ limit) × IsFinished most state bytes Stopping
+  RestEnds limit state at bytes (Truncated offset) = (bytes ≢ []) × (at + length bytes < limit) × (offset ≡ at) × IsRest p state bytes
+  RestEnds limit state at bytes InputLimit = (front more : List ℕ) × (bytes ≡ front ++ more) × (at + length front ≡ limit) × IsRest p state front
+  RestEnds limit state at bytes ReadFault = ⊥
+  RestEnds limit state at bytes WriteFault = ⊥
+  RestEnds limit state at bytes NoMemory = ⊥
+
+  -- how an input ends a session of the protocol, where nothing fails
+  pub record InputEnds (limit : ℕ) (input : List ℕ) (end : SessionEnd) : Type 0 where
+    pub xs : List (Spelling Request)
+    pub state : State
+    pub bytes : List ℕ
+    pub outlived : Outlives p.start xs state
+    pub input_is : input ≡ spelled_bytes xs ++ bytes
+    pub ends : RestEnds limit state (length (spelled_bytes xs)) bytes end

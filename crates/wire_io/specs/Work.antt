@@ -1,0 +1,26 @@
+-- What is done for a request: calls, each chosen by the answers so far, and then a text.
+use Rattle.std.specs.Prelude.{◌≡◌, ℕ, List, [], ◌∷◌}
+use Rattle.wire_io.specs.declared.ends.After.{After}
+
+-- a call, and what is done by its answer; or a text, and what the session does after it
+pub data Work (Call Answer : Type 0) : Type 0 where
+  ask : (call : Call) (next : Answer → Work Call Answer) → Work Call Answer
+  say : (text : List ℕ) (after : After) → Work Call Answer
+
+module _ {Call Answer : Type 0} where
+  -- the calls with their answers are what the work asks for, under these answers, up to its text
+  abbrev pub Does : Work Call Answer → List (Call × Answer) → List ℕ → After → Type 0
+  Does (say text after) [] written word = (written ≡ text) × (word ≡ after)
+  Does (say text after) (entry ∷ log) written word = ⊥
+  Does (ask call next) [] written word = ⊥
+  Does (ask call next) (entry ∷ log) written word = (entry.0 ≡ call) × Does (next entry.1) log written word
+
+  -- they are the first calls that it asks for
+  abbrev pub Begins : Work Call Answer → List (Call × Answer) → Type 0
+  Begins work [] = Unit {0}
+  Begins (say text after) (entry ∷ log) = ⊥
+  Begins (ask call next) (entry ∷ log) = (entry.0 ≡ call) × Begins (next entry.1) log
+
+  -- whatever its calls are answered, the session does this after its text
+  abbrev pub AlwaysEnds : Work Call Answer → After → Type 0
+  AlwaysEnds work word = (log : List (Call × Answer)) (written : List ℕ) (after : After) → Does work log written after → after ≡ word
