@@ -107,6 +107,11 @@ module _ {State Request Call Answer : Type 0} (p : Protocol State Request Call A
       inl h ↦ (h.0, f.request, subst (λ l. Spells p state l f.request) h.1 is.0)
       | inr h ↦ let gone : p.whole state f.own ≡ None = none f.own (h.0 ∷ h.1) h.2 in let here : p.whole state f.own ≡ Some f.request = is.0.whole in absurd cc ]
 
+  -- nothing is no request
+  pub none_whole : IsFilled p → (state : State) → NoneWhole state []
+  none_whole filled state [] more e = filled.starts state
+  none_whole filled state (b ∷ bs) more e = absurd cc
+
   pub some_byte : IsFilled p → (state : State) (bytes : List ℕ) (q : Request) → Spells p state bytes q → (b : ℕ) × (bs : List ℕ) × (bytes ≡ b ∷ bs)
   some_byte filled state [] q spelled = let here : p.whole state [] ≡ Some q = spelled.whole in let gone : p.whole state [] ≡ None = filled.starts state in absurd cc
   some_byte filled state (b ∷ bs) q spelled = (b, bs, refl)

@@ -128,15 +128,15 @@ module _ {State Request Call Answer : Type 0} (p : Protocol State Request Call A
   Outlives state [] last = last ≡ state
   Outlives state (x ∷ xs) last = Spells p state x.0 x.1 × AlwaysEnds (p.work state x.1) Open × Outlives (p.next state x.1) xs last
 
-  -- a request stands at the front of the bytes, with no more than so many, and after it the session does this, whatever its calls are answered
-  abbrev pub IsFinished : ℕ → State → List ℕ → After → Type 0
-  IsFinished most state bytes after = (own : List ℕ) × (request : Request) × (unread : List ℕ) × Spells p state own request
-      × AlwaysEnds (p.work state request) after × (bytes ≡ own ++ unread) × (length own ≤ most)
+  -- a request stands at the front of the bytes, within the limit, and after it the session does this, whatever its calls are answered
+  abbrev pub IsFinished : ℕ → State → ℕ → List ℕ → After → Type 0
+  IsFinished limit state at bytes after = (own : List ℕ) × (request : Request) × (unread : List ℕ) × Spells p state own request
+      × AlwaysEnds (p.work state request) after × (bytes ≡ own ++ unread) × (at + length own ≤ limit)
 
   -- how the bytes behind the requests that a session outlives end it, where nothing fails
   abbrev pub RestEnds : ℕ → State → ℕ → List ℕ → SessionEnd → Type 0
-  RestEnds limit state at bytes Closed = ((bytes ≡ []) × (at < limit)) ⊎ ((most : ℕ) × (at + most ≡ limit) × IsFinished most state bytes Closing)
-  RestEnds limit state at bytes Stopped = (most : ℕ) × (at + most ≡ limit) × IsFinished most state bytes Stopping
+  RestEnds limit state at bytes Closed = ((bytes ≡ []) × (at < limit)) ⊎ IsFinished limit state at bytes Closing
+  RestEnds limit state at bytes Stopped = IsFinished limit state at bytes Stopping
   RestEnds limit state at bytes (Truncated offset) = (bytes ≢ []) × (at + length bytes < limit) × (offset ≡ at) × IsRest p state bytes
   RestEnds limit state at bytes InputLimit = (front more : List ℕ) × (bytes ≡ front ++ more) × (at + length front ≡ limit) × IsRest p state front
   RestEnds limit state at bytes ReadFault = ⊥
@@ -151,3 +151,7 @@ module _ {State Request Call Answer : Type 0} (p : Protocol State Request Call A
     pub outlived : Outlives p.start xs state
     pub input_is : input ≡ spelled_bytes xs ++ bytes
     pub ends : RestEnds limit state (length (spelled_bytes xs)) bytes end
+
+-- the end is none that a fault gives
+abbrev pub IsQuiet : SessionEnd → Type 0
+IsQuiet end = (end ≢ ReadFault) × (end ≢ WriteFault)
