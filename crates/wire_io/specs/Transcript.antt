@@ -1,5 +1,5 @@
 -- The session that an input gives, as a function, where each call is answered by a world that these calls alone change.
-use Rattle.std.specs.Prelude.{ℕ, zero, suc, ◌+◌, nat_le, List, [], ◌∷◌, ◌++◌, length, take, Option, None, Some, if◌then◌else◌}
+use Rattle.std.specs.Prelude.{◌≡◌, ℕ, zero, suc, ◌+◌, nat_le, List, [], ◌∷◌, ◌++◌, length, take, Option, None, Some, if◌then◌else◌}
 use Rattle.wire_io.specs.declared.ends.After.{After}
 use Rattle.wire_io.specs.declared.ends.After.TheVariants.{Open, Closing, Stopping}
 use Rattle.wire_io.specs.declared.ends.SessionEnd.{SessionEnd}
@@ -16,6 +16,11 @@ pub record Transcript : Type 0 where
 pub record Answers (World Call Answer : Type 0) : Type 0 where
   pub answer : World → Call → Answer
   pub after : World → Call → World
+
+-- the calls with their answers are those of the world, one after the other, up to another world
+abbrev pub IsAnswered : {World Call Answer : Type 0} → Answers World Call Answer → World → List (Call × Answer) → World → Type 0
+IsAnswered by world [] last = last ≡ world
+IsAnswered by world (entry ∷ log) last = (entry.1 ≡ by.answer world entry.0) × IsAnswered by (by.after world entry.0) log last
 
 -- the text that answers a request, what the session does after it, and the world then
 pub record Done (World : Type 0) : Type 0 where

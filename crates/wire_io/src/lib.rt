@@ -5,4 +5,4 @@ mod ends;
 mod laws;
 
 pub use ends::{After, Failed, FeedEnd, LineEnd, NoMemory, SessionEnd, Wire};
-pub use laws::{an_input_decides_the_end, each_text_has_one_cut};
+pub use laws::{an_input_decides_the_end, an_input_decides_the_session, each_text_has_one_cut};
