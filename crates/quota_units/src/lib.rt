@@ -4,6 +4,7 @@
 mod digits;
 mod flags;
 mod limits;
+mod memory;
 mod name;
 mod totals;
 mod units;
@@ -11,6 +12,7 @@ mod units;
 pub use digits::number_in;
 pub use flags::Flags;
 pub use limits::{LimitError, Limits, limit_of_units};
+pub use memory::NoMemory;
 pub use name::{Name, NameError};
 pub use totals::Totals;
 pub use units::units_up;

@@ -1,0 +1,4 @@
+pub mod Account
+pub mod Machine
+pub mod History
+pub mod Plain

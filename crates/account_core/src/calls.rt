@@ -1,0 +1,69 @@
+ghost use Rattle.std.specs.Prelude.{◌≡◌};
+ghost use Rattle.account_core.specs.declared.calls.StepError.TheVariants.{NoMemory};
+
+use quota_units::{Limits, Name};
+use std::alloc::{AllocError, AllocFailed};
+use thiserror::Error;
+
+/// What an account is asked.
+#[derive(Debug, Drop)]
+pub enum Call {
+    /// The usage and the limits of the root of this name.
+    Quota { root: Name },
+}
+
+/// A root's number, its usage in octets and messages, and its limits.
+#[derive(Clone, Copy, Debug, PartialEq, Eq)]
+pub struct RootRow {
+    pub root: u32,
+    pub octets: u64,
+    pub count: u64,
+    pub limits: Limits,
+}
+
+/// What the account machine answers.
+#[derive(Clone, Copy, Debug, PartialEq, Eq)]
+pub enum Reply {
+    /// No root has that name.
+    NoRoot,
+    /// The named root, as it is.
+    Quota(RootRow),
+}
+
+/// One call in the history of an account: who made it, and whether a fault of the store took its effect.
+#[derive(Debug, Drop)]
+pub struct Entry {
+    pub caller: u32,
+    pub call: Call,
+    pub fault: bool,
+}
+
+/// Why an account gave no reply.
+#[derive(Clone, Copy, Debug, PartialEq, Eq, Error)]
+pub enum StepError {
+    /// There was no memory. The history is as before.
+    #[error("out of memory")]
+    NoMemory,
+    /// The store failed. The history has the call's entry, with fault.
+    #[error("the store is unavailable")]
+    Store,
+    /// The history holds as many entries as it may, which is this number.
+    #[error("the journal is full at {limit} entries")]
+    JournalFull { limit: u32 },
+}
+
+impl From<AllocError> for StepError {
+    ghost from_gives = { λ _ e. e ≡ NoMemory };
+
+    fn from(_: AllocError) -> Self {
+        StepError::NoMemory
+    }
+}
+
+impl<T: Drop> From<AllocFailed<T>> for StepError {
+    ghost from_gives = { λ _ e. e ≡ NoMemory };
+
+    fn from(_: AllocFailed<T>) -> Self {
+        StepError::NoMemory
+    }
+}

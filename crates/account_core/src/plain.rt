@@ -1,0 +1,88 @@
+ghost use Rattle.std.specs.Prelude.{◌≡◌, ◌≢◌, ◌≤◌, ◌↔◌, [], length, IsOk, IfOk, IsErrOf};
+ghost use Rattle.account_core.specs.History.{Serves};
+ghost use Rattle.account_core.specs.Plain.{plain_opened, plain_reply};
+
+use crate::{Call, Entry, Reply, RootRow, StepError};
+use quota_units::{Limits, Name, NoMemory};
+use std::alloc::Global;
+use std::marker::Model;
+
+/// The most entries of a plain account's history.
+pub const PLAIN_JOURNAL: u32 = 65536;
+
+/// An account without a store: one root with the empty name, its limits, and the history of its calls.
+/// It has the mailboxes INBOX and Trash, and no message.
+#[derive(Debug, Drop)]
+pub struct PlainAccount {
+    limits: Limits,
+    history: Vec<Entry>,
+}
+
+impl Model for PlainAccount {
+    ghost use Rattle.std.specs.Prelude.{◌≤◌, length};
+    ghost use Rattle.account_core.specs.History.{Book};
+    ghost use Rattle.account_core.specs.Plain.{plain_opened};
+
+    ghost Value = { Book };
+
+    ghost view = { λ a. record { opened = plain_opened a.limits; history = a.history.items } };
+
+    ghost invariant = { λ a. length a.history.items ≤ 65536 };
+}
+
+impl PlainAccount {
+    /// An account whose root has these limits.
+    pub fn new(alloc: Global, limits: Limits) -> Result<PlainAccount, NoMemory>
+        ensures always { IsOk result }
+        ensures opened { IfOk result (λ account. account.opened ≡ plain_opened limits) }
+        ensures fresh { IfOk result (λ account. account.history ≡ []) }
+    {
+        Ok(PlainAccount {
+            limits,
+            history: Vec::new(alloc),
+        })
+    }
+
+    /// Answers a call of the account's owner, who is caller 0.
+    ///
+    /// # Errors
+    ///
+    /// `JournalFull` where the history holds 65536 entries, and `NoMemory`; both leave the history as it was.
+    #[tactic(auto, using(crate::proofs::Replaying::plain_still))]
+    pub fn serve(&mut self, _alloc: Global, call: Call) -> Result<Reply, StepError>
+        ensures opened { self.new.opened ≡ self.old.opened }
+        ensures serves { Serves self.old.opened 0 self.old.history call result self.new.history }
+        ensures within { length self.new.history ≤ self.new.opened.journal }
+        ensures no_store { result ≢ Err StepError.Store }
+        ensures full { IsErrOf result (StepError.JournalFull 65536) ↔ (length self.old.history ≡ 65536) }
+    {
+        if self.history.len() >= PLAIN_JOURNAL as usize {
+            return Err(StepError::JournalFull {
+                limit: PLAIN_JOURNAL,
+            });
+        }
+        let reply = answer(&call, self.limits);
+        self.history.push(Entry {
+            caller: 0,
+            call,
+            fault: false,
+        })?;
+        Ok(reply)
+    }
+}
+
+/// What the machine answers, where the one root has the empty name and no message counts.
+fn answer(call: &Call, limits: Limits) -> Reply
+    ensures { result ≡ plain_reply call.now limits }
+{
+    let Call::Quota { root } = call;
+    if !root.as_slice().is_empty() {
+        return Reply::NoRoot;
+    }
+    Reply::Quota(RootRow {
+        root: 0,
+        octets: 0,
+        count: 0,
+        limits,
+    })
+}
