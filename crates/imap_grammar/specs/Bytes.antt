@@ -1,0 +1,11 @@
+-- The bytes that parts of a command have: RFC 9051, section 9.
+use Rattle.std.specs.Prelude.{ℕ, Bool, not, ◌&&◌, ◌==◌, nat_le, codes}
+use Rattle.std.specs.List.{list_any}
+use Rattle.std.specs.Char.{is_ascii_alphabetic}
+
+-- a byte of a tag: a printing character but a space and ( ) { % * " \ +
+abbrev pub is_tag_byte : ℕ → Bool
+is_tag_byte b = nat_le 33 b && (nat_le b 126 && not (list_any (λ c. c == b) (codes "(){%*\"\\+")))
+
+abbrev pub is_letter : ℕ → Bool
+is_letter b = is_ascii_alphabetic b

@@ -1,0 +1,9 @@
+//! The command lines of IMAP (RFC 9051, section 9, and RFC 9208): readers of their parts, and of a whole command.
+#![tactic(auto)]
+
+mod command;
+mod kind;
+mod parts;
+mod readers;
+
+pub use command::{Command, CommandFault, read_command, read_tagged};

@@ -1,0 +1,73 @@
+// Readers of the parts of a command: each reads what it names at the front of a text, and gives the rest.
+ghost use Rattle.std.specs.Prelude.{◌≡◌};
+ghost use Rattle.imap_grammar.specs.Reading.{Gives, byte, many, line_end};
+ghost use Rattle.imap_grammar.specs.Bytes.{is_tag_byte, is_letter};
+
+/// Why nothing was read.
+#[derive(Clone, Copy, Debug, PartialEq, Eq)]
+pub enum Stop {
+    /// The text goes wrong where so many bytes of it are left.
+    Wrong { left: usize },
+    /// The text ends within.
+    Short,
+}
+
+/// This byte.
+pub fn byte(text: &[u8], wanted: u8) -> Result<((), &[u8]), Stop>
+    ensures { Gives (λ x. x.0) (λ x. x.1.now) result (byte wanted text.now) }
+{
+    match text {
+        [] => Err(Stop::Short),
+        [first, rest @ ..] if *first == wanted => Ok(((), rest)),
+        _ => Err(Stop::Wrong { left: text.len() }),
+    }
+}
+
+/// A line's end: CR and LF, or LF alone.
+pub fn line_end(text: &[u8]) -> Result<((), &[u8]), Stop>
+    ensures { Gives (λ x. x.0) (λ x. x.1.now) result (line_end text.now) }
+{
+    match text {
+        [] => Err(Stop::Short),
+        [b'\n', rest @ ..] => Ok(((), rest)),
+        [b'\r'] => Err(Stop::Short),
+        [b'\r', b'\n', rest @ ..] => Ok(((), rest)),
+        [b'\r', ..] => Err(Stop::Wrong {
+            left: text.len() - 1,
+        }),
+        _ => Err(Stop::Wrong { left: text.len() }),
+    }
+}
+
+/// Whether a tag may have this byte (RFC 9051, section 9: tag).
+pub fn is_tag_byte(byte: u8) -> bool
+    ensures { result ≡ is_tag_byte byte }
+{
+    (33..=126).contains(&byte) && !b"(){%*\"\\+".contains(&byte)
+}
+
+/// The bytes of a tag, up to the first other byte.
+#[tactic(auto, using(crate::proofs::Many::read_none, crate::proofs::Many::read_more, crate::proofs::Many::read_stops, crate::proofs::Many::read_all))]
+pub fn tag_bytes(text: &[u8]) -> Result<(&[u8], &[u8]), Stop>
+    ensures { Gives (λ x. x.0.now) (λ x. x.1.now) result (many is_tag_byte text.now) }
+{
+    for (i, b) in text.iter().enumerate() {
+        if !is_tag_byte(*b) {
+            return Ok(text.split_at(i));
+        }
+    }
+    Err(Stop::Short)
+}
+
+/// Letters, up to the first other byte.
+#[tactic(auto, using(crate::proofs::Many::read_none, crate::proofs::Many::read_more, crate::proofs::Many::read_stops, crate::proofs::Many::read_all))]
+pub fn letters(text: &[u8]) -> Result<(&[u8], &[u8]), Stop>
+    ensures { Gives (λ x. x.0.now) (λ x. x.1.now) result (many is_letter text.now) }
+{
+    for (i, b) in text.iter().enumerate() {
+        if !b.is_ascii_alphabetic() {
+            return Ok(text.split_at(i));
+        }
+    }
+    Err(Stop::Short)
+}
