@@ -2,5 +2,7 @@
 #![tactic(auto)]
 
 mod ends;
+mod source;
 
 pub use ends::{After, Failed, FeedEnd, LineEnd, NoMemory, SessionEnd, Wire};
+pub use source::{Sink, Source, send};
