@@ -1,1 +1,4 @@
+pub mod FeedLemmas
+pub mod LineLemmas
+pub mod PieceLemmas
 pub mod SendLemmas

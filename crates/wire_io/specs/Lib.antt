@@ -1,3 +1,5 @@
 pub mod Causes
+pub mod Feeding
+pub mod Feeds
 pub mod Lines
 pub mod Sending

@@ -2,7 +2,9 @@
 #![tactic(auto)]
 
 mod ends;
+mod feed;
 mod source;
 
 pub use ends::{After, Failed, FeedEnd, LineEnd, NoMemory, SessionEnd, Wire};
+pub use feed::Feed;
 pub use source::{Sink, Source, send};

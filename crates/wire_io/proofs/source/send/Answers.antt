@@ -1,4 +1,4 @@
-use Rattle.std.proofs.Common.{rules, arith, length, drop, length-drop}
+use Rattle.std.proofs.Common.{rules, arith, length-drop}
 use Rattle.wire_io.proofs.SendLemmas.{Appends-take}
 use Rattle.wire_io.proofs.source.send.Goals as goal
 
