@@ -14,6 +14,12 @@ pub struct Failed;
 #[error("out of memory")]
 pub struct NoMemory;
 
+impl From<AllocError> for NoMemory {
+    fn from(_: AllocError) -> Self {
+        NoMemory
+    }
+}
+
 /// The protocols that a mail host's quota service speaks.
 #[derive(Clone, Copy, Debug, PartialEq, Eq)]
 pub enum Wire {

@@ -3,8 +3,12 @@
 
 mod ends;
 mod feed;
+mod memory;
+mod real;
 mod source;
 
 pub use ends::{After, Failed, FeedEnd, LineEnd, NoMemory, SessionEnd, Wire};
 pub use feed::Feed;
+pub use memory::{MemSink, MemSource};
+pub use real::{StdSink, StdSource};
 pub use source::{Sink, Source, send};
