@@ -1,5 +1,10 @@
 pub mod Causes
+pub mod Feeding
+pub mod Feeds
 pub mod Lines
+pub mod Memory
+pub mod Real
+pub mod Sending
 pub mod Work
 pub mod Protocol
 pub mod Session

@@ -1,3 +1,7 @@
+ghost use Rattle.std.specs.Prelude.{◌≡◌};
+ghost use Rattle.wire_io.specs.declared.ends.FeedEnd.TheVariants.{Fault, NoMemory as no_memory};
+
+use std::alloc::AllocError;
 use thiserror::Error;
 
 /// A fault outside, which the count of faults of the object that was called has seen.
@@ -9,6 +13,12 @@ pub struct Failed;
 #[derive(Clone, Copy, Debug, PartialEq, Eq, Error)]
 #[error("out of memory")]
 pub struct NoMemory;
+
+impl From<AllocError> for NoMemory {
+    fn from(_: AllocError) -> Self {
+        NoMemory
+    }
+}
 
 /// The protocols that a mail host's quota service speaks.
 #[derive(Clone, Copy, Debug, PartialEq, Eq)]
@@ -45,6 +55,22 @@ pub enum FeedEnd {
     /// There was no memory for what is handed out.
     #[error("out of memory")]
     NoMemory,
+}
+
+impl From<Failed> for FeedEnd {
+    ghost from_gives = { λ _ e. e ≡ Fault };
+
+    fn from(_: Failed) -> Self {
+        FeedEnd::Fault
+    }
+}
+
+impl From<AllocError> for FeedEnd {
+    ghost from_gives = { λ _ e. e ≡ no_memory };
+
+    fn from(_: AllocError) -> Self {
+        FeedEnd::NoMemory
+    }
 }
 
 /// What a session does after an answer.

@@ -2,7 +2,15 @@
 #![tactic(auto)]
 
 mod ends;
+mod feed;
 mod laws;
+mod memory;
+mod real;
+mod source;
 
 pub use ends::{After, Failed, FeedEnd, LineEnd, NoMemory, SessionEnd, Wire};
+pub use feed::Feed;
 pub use laws::{an_input_decides_the_end, an_input_decides_the_session, each_text_has_one_cut};
+pub use memory::{MemSink, MemSource};
+pub use real::{StdSink, StdSource};
+pub use source::{Sink, Source, send};

@@ -1,0 +1,314 @@
+ghost use Rattle.std.specs.Prelude.{◌≡◌, ◌≢◌, ◌≤◌, ◌<◌, ◌-◌, ◌+◌, ◌⊎◌, ◌↔◌, ℕ, List, [], ◌++◌, true, false, Option, take, drop, IfOk, IfErr, IsOk, OnOk, OnErr, IsErrOf, length, MatchResult};
+ghost use Rattle.std.specs.Io.KnownBytes.{Consumes, Keeps, IsAtEnd};
+ghost use Rattle.wire_io.specs.Causes.{HasCause, Rose};
+ghost use Rattle.wire_io.specs.Lines.{HasNoEnd, IsLine};
+
+use super::ends::{Failed, FeedEnd, LineEnd, NoMemory};
+use super::source::Source;
+use memchr::memchr;
+use std::marker::Model;
+
+/// The most bytes that are taken from a source at once.
+const PIECE: usize = 4096;
+
+/// Bytes that were taken and wait: a part of an array.
+#[derive(Drop)]
+struct Piece {
+    bytes: [u8; 4096],
+    from: usize,
+    to: usize,
+}
+
+impl Model for Piece {
+    ghost use Rattle.std.specs.Prelude.{◌≤◌, ◌-◌, ℕ, List, take, drop};
+
+    ghost Value = { List ℕ };
+
+    ghost view = { λ p. take (p.to - p.from) (drop p.from p.bytes) };
+
+    ghost invariant = { λ p. (p.from ≤ p.to) × (p.to ≤ 4096) };
+}
+
+impl Piece {
+    /// No bytes.
+    fn new() -> Piece
+        ensures { result ≡ [] }
+    {
+        Piece {
+            bytes: [0; 4096],
+            from: 0,
+            to: 0,
+        }
+    }
+
+    /// The bytes.
+    fn as_slice(&self) -> &[u8]
+        ensures { result.now ≡ self.now }
+    {
+        &self.bytes[self.from..self.to]
+    }
+
+    /// How many bytes there are.
+    fn len(&self) -> usize
+        ensures { result ≡ length self.now }
+    {
+        self.to - self.from
+    }
+
+    /// Leaves the first bytes out.
+    #[tactic(auto, using(crate::proofs::PieceLemmas::drop_part))]
+    fn skip(&mut self, count: usize)
+        requires { count ≤ length self.old }
+        ensures { self.new ≡ drop count self.old }
+    {
+        self.from += count;
+    }
+
+    /// Takes bytes from the source in place of none, and says how many.
+    fn fill<S: Source>(&mut self, source: &mut S, most: u64) -> Result<usize, Failed>
+        requires { self.old ≡ [] }
+        ensures most { length self.new ≤ most }
+        ensures bytes { MatchResult result
+            (λ n. (length self.new ≡ n) × Consumes (S.left source.old) (S.left source.new) self.new × (n ≡ 0 → 0 < most → IsAtEnd (S.left source.new)))
+            (λ _. (self.new ≡ []) × Keeps (S.left source.old) (S.left source.new)) }
+        ensures cause { HasCause (S.faults source.old) (S.faults source.new) result }
+    {
+        let room = most.min(4096) as usize;
+        let count = source.read(&mut self.bytes[..room])?;
+        self.from = 0;
+        self.to = count;
+        Ok(count)
+    }
+}
+
+/// How many of the first bytes belong to a line that has room for so many more, and whether they end it.
+fn line_front(bytes: &[u8], room: usize) -> (usize, bool)
+    requires some { 0 < length bytes.now }
+    requires room { 0 < room }
+    ensures some { 0 < result.0 }
+    ensures within { result.0 ≤ length bytes.now }
+    ensures fits { result.0 ≤ room }
+    ensures whole { result.1 ≡ true → IsLine (take result.0 bytes.now) }
+    ensures begun { result.1 ≡ false → HasNoEnd (take result.0 bytes.now) }
+{
+    let front = &bytes[..room.min(bytes.len())];
+    match memchr(b'\n', front) {
+        Some(place) => (place + 1, true),
+        None => (front.len(), false),
+    }
+}
+
+/// Hands out the bytes of a source, line by line or so many at once, and never takes more of them than its limit.
+///
+/// It reads ahead, at most 4096 bytes, and only where a byte is needed and none waits.
+pub struct Feed<'a, S: Source> {
+    source: &'a mut S,
+    waiting: Piece,
+    handed: u64,
+    limit: u64,
+    ghost within: { handed + length waiting ≤ limit },
+}
+
+impl<S: Source> Drop for Feed<'_, S> {
+    fn drop(self)
+        ensures { self.exit.0.now ≡ self.entry.source.now }
+    {
+        let Feed {
+            source: _,
+            waiting: _,
+            handed: _,
+            limit: _,
+        } = self;
+    }
+}
+
+impl<'a, S: Source> Feed<'a, S> {
+    ghost use Rattle.wire_io.specs.Feeding.{gained, Hands, IsBegun, IsTooLong, IsDry};
+    ghost use Rattle.wire_io.specs.Feeds.{source_of, source_name, waiting_of, handed_of, taken_of, limit_of};
+
+    /// A feed over a source, which takes at most `limit` bytes from it. It takes no memory.
+    pub fn new(source: &'a mut S, limit: u64) -> Result<Feed<'a, S>, NoMemory>
+        ensures always { IsOk result }
+        ensures same_source { IfOk result (λ feed. source_name feed ≡ source.entry.ghost_name) }
+        ensures source { IfOk result (λ feed. source_of feed ≡ source.old) }
+        ensures empty { IfOk result (λ feed. waiting_of feed ≡ []) }
+        ensures untaken { IfOk result (λ feed. taken_of feed ≡ 0) }
+        ensures at_start { IfOk result (λ feed. handed_of feed ≡ 0) }
+        ensures limit { IfOk result (λ feed. limit_of feed ≡ limit) }
+    {
+        Ok(Feed {
+            source,
+            waiting: Piece::new(),
+            handed: 0,
+            limit,
+        })
+    }
+
+    /// How many bytes were handed out.
+    pub fn at(&self) -> u64
+        ensures { result ≡ handed_of self.now }
+    {
+        self.handed
+    }
+
+    /// Appends one line, its line feed included, and says that it is whole.
+    ///
+    /// A line has at most `max` bytes. Where so many hold no line feed, these are appended, and the line is too long.
+    /// It reads only where a byte is needed and none waits; `max` 0 needs none.
+    ///
+    /// # Errors
+    ///
+    /// Each comes where one more byte was needed. `Fault`: the read of it failed. `Ended`: the source ended, and fewer
+    /// bytes than the limit were taken. `Limit`: so many were taken as the limit says. What was taken and not handed out
+    /// before is appended then. `NoMemory`: `out` could not grow, and the bytes that it did not gain still wait.
+    #[tactic(auto, using(crate::proofs::LineLemmas::line_has_end))]
+    pub fn line(&mut self, out: &mut Vec<u8>, max: usize) -> Result<LineEnd, FeedEnd>
+        // The source stays the one that was lent, and no more is taken from it than the limit.
+        ensures same_source { source_name self.new ≡ source_name self.old }
+        ensures same_limit { limit_of self.new ≡ limit_of self.old }
+        ensures within { taken_of self.new ≤ limit_of self.new }
+
+        // What `out` gains is handed out. Nothing is lost, and nothing comes twice.
+        ensures grows { out.new.items ≡ out.old.items ++ gained out.old.items out.new.items }
+        ensures hands { Hands (S.left (source_of self.old)) (S.left (source_of self.new))
+            (waiting_of self.old) (waiting_of self.new) (taken_of self.old) (taken_of self.new)
+            (gained out.old.items out.new.items) }
+        ensures counts { handed_of self.new ≡ handed_of self.old + length (gained out.old.items out.new.items) }
+
+        ensures most { length (gained out.old.items out.new.items) ≤ max }
+        ensures whole { (result ≡ Ok LineEnd.Whole) ↔ IsLine (gained out.old.items out.new.items) }
+        ensures too_long { (result ≡ Ok LineEnd.TooLong) ↔ IsTooLong (gained out.old.items out.new.items) max }
+
+        // Below the limit the source failed or ended, and where it ended it has no byte left.
+        ensures below_limit { (IsErrOf result FeedEnd.Fault ⊎ IsErrOf result FeedEnd.Ended)
+            ↔ (IsBegun (gained out.old.items out.new.items) max × (waiting_of self.new ≡ [])
+            × (taken_of self.new < limit_of self.new)) }
+        ensures at_limit { IsErrOf result FeedEnd.Limit
+            ↔ (IsBegun (gained out.old.items out.new.items) max × (waiting_of self.new ≡ [])
+            × (taken_of self.new ≡ limit_of self.new)) }
+        ensures ended { IsErrOf result FeedEnd.Ended → IsAtEnd (S.left (source_of self.new)) }
+        ensures no_memory { IsErrOf result FeedEnd.NoMemory
+            ↔ (IsBegun (gained out.old.items out.new.items) max × (waiting_of self.new ≢ [])) }
+
+        // A line that waits is handed out without a read.
+        ensures unread { IsOk result → length (gained out.old.items out.new.items) ≤ length (waiting_of self.old)
+            → (source_of self.new ≡ source_of self.old) × (taken_of self.new ≡ taken_of self.old) }
+
+        ensures later { S.faults (source_of self.old) ≤ S.faults (source_of self.new) }
+        ensures fault { IsErrOf result FeedEnd.Fault → Rose (S.faults (source_of self.old)) (S.faults (source_of self.new)) }
+        ensures kept { result ≢ Err FeedEnd.Fault → S.faults (source_of self.new) ≡ S.faults (source_of self.old) }
+    {
+        let mut room = max;
+        while room > 0 {
+            self.ready()?;
+            let (count, is_whole) = line_front(self.waiting.as_slice(), room);
+            self.hand_out(out, count)?;
+            if is_whole {
+                return Ok(LineEnd::Whole);
+            }
+            room -= count;
+        }
+        Ok(LineEnd::TooLong)
+    }
+
+    /// Appends so many bytes.
+    ///
+    /// It reads only where a byte is needed and none waits; `count` 0 needs none.
+    ///
+    /// # Errors
+    ///
+    /// Each comes where one more byte was needed, as for [`line`](Feed::line).
+    pub fn exact(&mut self, out: &mut Vec<u8>, count: usize) -> Result<(), FeedEnd>
+        // The source stays the one that was lent, and no more is taken from it than the limit.
+        ensures same_source { source_name self.new ≡ source_name self.old }
+        ensures same_limit { limit_of self.new ≡ limit_of self.old }
+        ensures within { taken_of self.new ≤ limit_of self.new }
+
+        // What `out` gains is handed out. Nothing is lost, and nothing comes twice.
+        ensures grows { out.new.items ≡ out.old.items ++ gained out.old.items out.new.items }
+        ensures hands { Hands (S.left (source_of self.old)) (S.left (source_of self.new))
+            (waiting_of self.old) (waiting_of self.new) (taken_of self.old) (taken_of self.new)
+            (gained out.old.items out.new.items) }
+        ensures counts { handed_of self.new ≡ handed_of self.old + length (gained out.old.items out.new.items) }
+
+        ensures most { length (gained out.old.items out.new.items) ≤ count }
+        ensures all { IsOk result ↔ (length (gained out.old.items out.new.items) ≡ count) }
+
+        // Below the limit the source failed or ended, and where it ended it has no byte left.
+        ensures below_limit { (IsErrOf result FeedEnd.Fault ⊎ IsErrOf result FeedEnd.Ended)
+            ↔ ((length (gained out.old.items out.new.items) < count) × (waiting_of self.new ≡ [])
+            × (taken_of self.new < limit_of self.new)) }
+        ensures at_limit { IsErrOf result FeedEnd.Limit
+            ↔ ((length (gained out.old.items out.new.items) < count) × (waiting_of self.new ≡ [])
+            × (taken_of self.new ≡ limit_of self.new)) }
+        ensures ended { IsErrOf result FeedEnd.Ended → IsAtEnd (S.left (source_of self.new)) }
+        ensures no_memory { IsErrOf result FeedEnd.NoMemory
+            ↔ ((length (gained out.old.items out.new.items) < count) × (waiting_of self.new ≢ [])) }
+
+        // Bytes that wait are handed out without a read.
+        ensures unread { IsOk result → length (gained out.old.items out.new.items) ≤ length (waiting_of self.old)
+            → (source_of self.new ≡ source_of self.old) × (taken_of self.new ≡ taken_of self.old) }
+
+        ensures later { S.faults (source_of self.old) ≤ S.faults (source_of self.new) }
+        ensures fault { IsErrOf result FeedEnd.Fault → Rose (S.faults (source_of self.old)) (S.faults (source_of self.new)) }
+        ensures kept { result ≢ Err FeedEnd.Fault → S.faults (source_of self.new) ≡ S.faults (source_of self.old) }
+    {
+        let mut room = count;
+        while room > 0 {
+            self.ready()?;
+            let next = room.min(self.waiting.len());
+            self.hand_out(out, next)?;
+            room -= next;
+        }
+        Ok(())
+    }
+
+    /// Sees that a byte waits. It reads only where none does.
+    fn ready(&mut self) -> Result<(), FeedEnd>
+        ensures same_source { source_name self.new ≡ source_name self.old }
+        ensures same_limit { limit_of self.new ≡ limit_of self.old }
+        ensures same_handed { handed_of self.new ≡ handed_of self.old }
+        ensures hands { Hands (S.left (source_of self.old)) (S.left (source_of self.new))
+            (waiting_of self.old) (waiting_of self.new) (taken_of self.old) (taken_of self.new) [] }
+        ensures ready { OnOk result (0 < length (waiting_of self.new)) }
+        ensures none { OnErr result (waiting_of self.new ≡ []) }
+        ensures unread { 0 < length (waiting_of self.old) → (source_of self.new ≡ source_of self.old) × (taken_of self.new ≡ taken_of self.old) }
+        ensures dry { IfErr result (λ end. IsDry end (S.left (source_of self.new)) (taken_of self.new) (limit_of self.new)) }
+        ensures later { S.faults (source_of self.old) ≤ S.faults (source_of self.new) }
+        ensures fault { IsErrOf result FeedEnd.Fault → Rose (S.faults (source_of self.old)) (S.faults (source_of self.new)) }
+        ensures kept { result ≢ Err FeedEnd.Fault → S.faults (source_of self.new) ≡ S.faults (source_of self.old) }
+    {
+        if self.waiting.len() > 0 {
+            return Ok(());
+        }
+        let most = self.limit - self.handed;
+        if most == 0 {
+            return Err(FeedEnd::Limit);
+        }
+        if self.waiting.fill(self.source, most)? == 0 {
+            return Err(FeedEnd::Ended);
+        }
+        Ok(())
+    }
+
+    /// Hands out the first bytes that wait.
+    fn hand_out(&mut self, out: &mut Vec<u8>, count: usize) -> Result<(), FeedEnd>
+        requires { count ≤ length (waiting_of self.old) }
+        ensures same_source { source_name self.new ≡ source_name self.old }
+        ensures unread { source_of self.new ≡ source_of self.old }
+        ensures same_taken { taken_of self.new ≡ taken_of self.old }
+        ensures same_limit { limit_of self.new ≡ limit_of self.old }
+        ensures grows { OnOk result (out.new.items ≡ out.old.items ++ take count (waiting_of self.old)) }
+        ensures rest { OnOk result (waiting_of self.new ≡ drop count (waiting_of self.old)) }
+        ensures counts { OnOk result (handed_of self.new ≡ handed_of self.old + count) }
+        ensures same_out { OnErr result (out.new.items ≡ out.old.items) }
+        ensures same_waiting { OnErr result (waiting_of self.new ≡ waiting_of self.old) }
+        ensures same_handed { OnErr result (handed_of self.new ≡ handed_of self.old) }
+        ensures only { IfErr result (λ end. end ≡ FeedEnd.NoMemory) }
+    {
+        out.extend_from_slice(&self.waiting.as_slice()[..count])?;
+        self.waiting.skip(count);
+        self.handed += count as u64;
+        Ok(())
+    }
+}
