@@ -36,7 +36,7 @@ pub enum CommandFault {
 /// `NotBuilt` where the text is none of the commands `TAG GETQUOTA ""` and `TAG LOGOUT`, or `NoMemory`.
 pub fn read_command(alloc: Global, text: &[u8], login: bool) -> Result<Command, CommandFault>
     ensures command { IfOk result (λ command. (tag : List ℕ) × IsCommand login text.now (record { tag = tag; command = command })) }
-    ensures not_built { result ≡ Err CommandFault.NotBuilt → (tagged : Tagged) → IsCommand login text.now tagged → ⊥ }
+    ensures not_built { IfErr result (λ fault. fault ≡ CommandFault.NotBuilt → (tagged : Tagged) → IsCommand login text.now tagged → ⊥) }
 {
     match read_tagged(alloc, text, login) {
         Ok((command, _)) => Ok(command),
@@ -52,7 +52,7 @@ pub fn read_command(alloc: Global, text: &[u8], login: bool) -> Result<Command, 
 pub fn read_tagged(alloc: Global, text: &[u8], login: bool) -> Result<(Command, usize), CommandFault>
     ensures short { IfOk result (λ x. x.1 < length text.now) }
     ensures command { IfOk result (λ x. command_in login text.now ≡ Some (record { tag = take x.1 text.now; command = x.0 })) }
-    ensures not_built { result ≡ Err CommandFault.NotBuilt → command_in login text.now ≡ None }
+    ensures not_built { IfErr result (λ fault. fault ≡ CommandFault.NotBuilt → command_in login text.now ≡ None) }
 {
     let Ok((tag, kind, rest)) = tagged(text, login) else {
         return Err(CommandFault::NotBuilt);

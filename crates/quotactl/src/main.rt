@@ -1,0 +1,6 @@
+//! `quotactl`: one session of the mail quota service over standard input and output.
+#![tactic(auto)]
+
+mod texts;
+
+fn main(_rt: HostRuntime) {}

@@ -1,0 +1,104 @@
+// The texts that answer requests, each appended whole.
+ghost use Rattle.std.specs.Prelude.{◌≡◌, ◌++◌, OnOk};
+ghost use Rattle.std.specs.Fmt.{decimal};
+ghost use Rattle.quotactl.specs.Texts.{resource, storage, message, resources, quota_line, tagged_line, quota_text, logout_text};
+ghost use Rattle.account_core.specs.History.{replied, journal_full, store};
+
+use account_core::{Reply, RootRow, StepError};
+use itoa::Buffer;
+use quota_units::units_up;
+use std::alloc::AllocError;
+
+/// What a session writes first.
+pub const GREETING: &[u8] = b"* PREAUTH quotad ready\r\n";
+
+/// What answers so many bytes without a line's end.
+pub const TOO_LONG: &[u8] = b"* BYE Command too long\r\n";
+
+/// What answers a line that is no command that is built.
+pub const NOT_BUILT: &[u8] = b"* BAD Not built yet\r\n";
+
+fn push_number(out: &mut Vec<u8>, number: u64) -> Result<(), AllocError>
+    ensures { OnOk result (out.new.items ≡ out.old.items ++ decimal number) }
+{
+    out.extend_from_slice(Buffer::new().format(number).as_bytes())
+}
+
+/// Words that answer the command with this tag.
+pub fn push_tagged(out: &mut Vec<u8>, tag: &[u8], words: &[u8]) -> Result<(), AllocError>
+    ensures { OnOk result (out.new.items ≡ out.old.items ++ tagged_line tag.now words.now) }
+{
+    out.extend_from_slice(tag)?;
+    out.extend_from_slice(b" ")?;
+    out.extend_from_slice(words)?;
+    out.extend_from_slice(b"\r\n")
+}
+
+/// A resource's name, usage and limit.
+fn push_resource(out: &mut Vec<u8>, name: &[u8], usage: u64, limit: u64) -> Result<(), AllocError>
+    ensures { OnOk result (out.new.items ≡ out.old.items ++ resource name.now usage limit) }
+{
+    out.extend_from_slice(name)?;
+    out.extend_from_slice(b" ")?;
+    push_number(out, usage)?;
+    out.extend_from_slice(b" ")?;
+    push_number(out, limit)
+}
+
+fn push_storage(out: &mut Vec<u8>, octets: u64, limit: u64) -> Result<(), AllocError>
+    ensures { OnOk result (out.new.items ≡ out.old.items ++ storage octets limit) }
+{
+    push_resource(out, b"STORAGE", units_up(octets), units_up(limit))
+}
+
+fn push_message(out: &mut Vec<u8>, count: u64, limit: u64) -> Result<(), AllocError>
+    ensures { OnOk result (out.new.items ≡ out.old.items ++ message count limit) }
+{
+    push_resource(out, b"MESSAGE", count, limit)
+}
+
+/// Each resource that is limited.
+fn push_resources(out: &mut Vec<u8>, row: &RootRow) -> Result<(), AllocError>
+    ensures { OnOk result (out.new.items ≡ out.old.items ++ resources row.now.octets row.now.count row.now.limits.octets row.now.limits.count) }
+{
+    match (row.limits.octets(), row.limits.count()) {
+        (None, None) => Ok(()),
+        (Some(limit), None) => push_storage(out, row.octets, limit),
+        (None, Some(limit)) => push_message(out, row.count, limit),
+        (Some(most), Some(limit)) => {
+            push_storage(out, row.octets, most)?;
+            out.extend_from_slice(b" ")?;
+            push_message(out, row.count, limit)
+        }
+    }
+}
+
+/// The untagged line of a root.
+fn push_quota_line(out: &mut Vec<u8>, row: &RootRow) -> Result<(), AllocError>
+    ensures { OnOk result (out.new.items ≡ out.old.items ++ quota_line row.now) }
+{
+    out.extend_from_slice(b"* QUOTA \"\" (")?;
+    push_resources(out, row)?;
+    out.extend_from_slice(b")\r\n")
+}
+
+/// What answers GETQUOTA, where the machine replied.
+pub fn push_quota(out: &mut Vec<u8>, tag: &[u8], reply: &Reply) -> Result<(), AllocError>
+    ensures { OnOk result (out.new.items ≡ out.old.items ++ quota_text tag.now (replied reply.now)) }
+{
+    match reply {
+        Reply::NoRoot => push_tagged(out, tag, b"NO No such quota root"),
+        Reply::Quota(row) => {
+            push_quota_line(out, row)?;
+            push_tagged(out, tag, b"OK GETQUOTA completed")
+        }
+    }
+}
+
+/// What answers LOGOUT.
+pub fn push_logout(out: &mut Vec<u8>, tag: &[u8]) -> Result<(), AllocError>
+    ensures { OnOk result (out.new.items ≡ out.old.items ++ logout_text tag.now) }
+{
+    out.extend_from_slice(b"* BYE quotad closing\r\n")?;
+    push_tagged(out, tag, b"OK LOGOUT completed")
+}
