@@ -1,5 +1,5 @@
 -- Histories of an account: entries one after another, the account that they make, and how the calls of one caller sit in them.
-use Rattle.std.specs.Prelude.{◌≡◌, ◌≢◌, ℕ, Bool, true, false, if◌then◌else◌, List, [], ◌∷◌, ◌++◌, length, Result, Ok, Err, Option, Some, None}
+use Rattle.std.specs.Prelude.{◌≡◌, ◌≢◌, ◌<◌, ℕ, Bool, true, false, if◌then◌else◌, List, [], ◌∷◌, ◌++◌, length, Result, Ok, Err, Option, Some, None}
 use Rattle.quota_roots.specs.declared.root.RootSpec.{RootSpec}
 use Rattle.account_core.specs.declared.calls.Call.{Call}
 use Rattle.account_core.specs.declared.calls.Reply.{Reply}
@@ -37,10 +37,11 @@ abbrev pub entry_of : ℕ → Call → Bool → Entry
 entry_of caller call fault = record { caller = caller; call = call; fault = fault }
 
 -- A call of the caller sits right behind this history, with its answer, and leads to that one:
--- its entry is the next, or the history is full.
+-- its entry is the next, where there is room, or the history is full.
 abbrev pub Sits : Opened → ℕ → List Entry → Call → Answer → List Entry → Type 0
-Sits opened caller seen call (replied given) seen' = (given ≡ reply opened seen call) × (seen' ≡ seen ++ entry_of caller call false ∷ [])
-Sits opened caller seen call store seen' = seen' ≡ seen ++ entry_of caller call true ∷ []
+Sits opened caller seen call (replied given) seen' =
+    (length seen < opened.journal) × (given ≡ reply opened seen call) × (seen' ≡ seen ++ entry_of caller call false ∷ [])
+Sits opened caller seen call store seen' = (length seen < opened.journal) × (seen' ≡ seen ++ entry_of caller call true ∷ [])
 Sits opened caller seen call journal_full seen' = (length seen ≡ opened.journal) × (seen' ≡ seen)
 
 -- no entry is the caller's

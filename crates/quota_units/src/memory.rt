@@ -1,6 +1,13 @@
+use std::alloc::AllocError;
 use thiserror::Error;
 
 /// There was no memory.
 #[derive(Clone, Copy, Debug, PartialEq, Eq, Error)]
 #[error("out of memory")]
 pub struct NoMemory;
+
+impl From<AllocError> for NoMemory {
+    fn from(_: AllocError) -> Self {
+        NoMemory
+    }
+}

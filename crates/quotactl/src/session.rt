@@ -1,0 +1,228 @@
+// One session of IMAP for the owner of one account.
+ghost use Rattle.std.specs.Prelude.{◌≡◌, ◌≢◌, ◌≤◌, ◌⊎◌, ◌++◌, ℕ, [], ◌∷◌, length, ◌<◌, OnOk, OnErr, IfOk, IfSome};
+ghost use Rattle.wire_io.specs.Lines.{IsLine};
+ghost use Rattle.quotactl.specs.Imap.{max_text, imap};
+ghost use Rattle.wire_io.specs.Causes.{Rose};
+ghost use Rattle.wire_io.specs.Feeds.{source_of, source_name, waiting_of, taken_of, handed_of, limit_of};
+ghost use Rattle.wire_io.specs.Session.{InputEnds};
+ghost use Rattle.wire_io.specs.declared.ends.SessionEnd.{SessionEnd as End};
+ghost use Rattle.quotactl.specs.Serving.{input_limit, end_at, TakesRequest, ServesRequest, IsServed, IsSession, AnswersQuota, LeavesQuota, AnswersCommand, LeavesCommand, Answered, Abandoned};
+
+use crate::texts::{GREETING, NOT_BUILT, TOO_LONG, push_logout, push_quota, push_tagged};
+use account_core::{Call, PlainAccount, StepError};
+use imap_grammar::{Command, CommandFault, read_tagged};
+use quota_units::{Name, NoMemory};
+use std::alloc::Global;
+use wire_io::{After, Failed, Feed, FeedEnd, LineEnd, SessionEnd, Sink, Source, send};
+
+/// The most bytes of a command's text.
+const MAX_TEXT: usize = 16384;
+
+/// The most bytes of a session.
+const INPUT_LIMIT: u64 = 1073741824;
+
+/// Asks the account for a root, and appends what answers the command with this tag.
+fn answer_quota(
+    alloc: Global,
+    account: &mut PlainAccount,
+    tag: &[u8],
+    root: Name,
+    text: &mut Vec<u8>,
+) -> Result<(), NoMemory>
+    requires { text.old.items ≡ [] }
+    ensures ok { OnOk result (AnswersQuota account.old account.new tag.now root text.new.items) }
+    ensures err { OnErr result (LeavesQuota account.old account.new root) }
+{
+    match account.serve(alloc, Call::Quota { root }) {
+        Ok(reply) => match push_quota(text, tag, &reply) {
+            Ok(()) => Ok(()),
+            Err(_) => Err(NoMemory),
+        },
+        Err(StepError::Store) => unreachable!(),
+        Err(StepError::JournalFull { .. }) => match push_tagged(text, tag, b"NO [LIMIT] Journal full") {
+            Ok(()) => Ok(()),
+            Err(_) => Err(NoMemory),
+        },
+        Err(StepError::NoMemory) => Err(NoMemory),
+    }
+}
+
+/// Makes what answers a line, with the calls that it asks for, and says what the session does after it.
+fn answer_line(alloc: Global, account: &mut PlainAccount, line: &[u8], text: &mut Vec<u8>) -> Result<After, NoMemory>
+    requires line { IsLine line.now }
+    requires short { length line.now ≤ max_text }
+    requires empty { text.old.items ≡ [] }
+    ensures ok { IfOk result (λ after. Answered account.old account.new line.now text.new.items after) }
+    ensures err { OnErr result (Abandoned account.old account.new line.now) }
+{
+    match read_tagged(alloc, line, true) {
+        Ok((command, length)) => match answer_command(alloc, account, command, &line[..length], text) {
+            Ok(after) => Ok(after),
+            Err(NoMemory) => Err(NoMemory),
+        },
+        Err(CommandFault::NotBuilt) => match text.extend_from_slice(NOT_BUILT) {
+            Ok(()) => Ok(After::Open),
+            Err(_) => Err(NoMemory),
+        },
+        Err(CommandFault::NoMemory) => Err(NoMemory),
+    }
+}
+
+/// Makes what answers a command with this tag.
+fn answer_command(
+    alloc: Global,
+    account: &mut PlainAccount,
+    command: Command,
+    tag: &[u8],
+    text: &mut Vec<u8>,
+) -> Result<After, NoMemory>
+    requires { text.old.items ≡ [] }
+    ensures ok { IfOk result (λ after. AnswersCommand account.old account.new tag.now command text.new.items after) }
+    ensures err { OnErr result (LeavesCommand account.old account.new tag.now command) }
+{
+    match command {
+        Command::GetQuota { root } => match answer_quota(alloc, account, tag, root, text) {
+            Ok(()) => Ok(After::Open),
+            Err(NoMemory) => Err(NoMemory),
+        },
+        Command::Logout => match push_logout(text, tag) {
+            Ok(()) => Ok(After::Closing),
+            Err(_) => Err(NoMemory),
+        },
+    }
+}
+
+/// The session's end where the feed ends, within a request that begins at `at` and of which so many bytes came.
+fn end_of(end: FeedEnd, at: u64, come: usize) -> SessionEnd
+    ensures { result ≡ end_at end at come }
+{
+    match end {
+        FeedEnd::Fault => SessionEnd::ReadFault,
+        FeedEnd::Limit => SessionEnd::InputLimit,
+        FeedEnd::NoMemory => SessionEnd::NoMemory,
+        FeedEnd::Ended => match come {
+            0 => SessionEnd::Closed,
+            _ => SessionEnd::Truncated { at },
+        },
+    }
+}
+
+/// Takes one request from the feed and makes what answers it, or says how the session ends before.
+fn take_request<S: Source>(
+    alloc: Global,
+    account: &mut PlainAccount,
+    feed: &mut Feed<'_, S>,
+    line: &mut Vec<u8>,
+    text: &mut Vec<u8>,
+) -> Result<After, SessionEnd>
+    requires limit { limit_of feed.old ≡ input_limit }
+    requires no_line { line.old.items ≡ [] }
+    requires no_text { text.old.items ≡ [] }
+    ensures takes { TakesRequest (S.left (source_of feed.old)) (S.left (source_of feed.new))
+        (waiting_of feed.old) (waiting_of feed.new) (taken_of feed.old) (taken_of feed.new) (handed_of feed.old) (handed_of feed.new)
+        account.old account.new text.new.items result }
+    ensures same_source { source_name feed.new ≡ source_name feed.old }
+    ensures same_limit { limit_of feed.new ≡ input_limit }
+    ensures within { taken_of feed.new ≤ input_limit }
+    ensures read_fault { result ≡ Err SessionEnd.ReadFault → Rose (S.faults (source_of feed.old)) (S.faults (source_of feed.new)) }
+    ensures read_kept { result ≢ Err SessionEnd.ReadFault → S.faults (source_of feed.new) ≡ S.faults (source_of feed.old) }
+    ensures not_written { result ≢ Err SessionEnd.WriteFault }
+{
+    let at = feed.at();
+    match feed.line(line, MAX_TEXT) {
+        Ok(LineEnd::Whole) => match answer_line(alloc, account, line, text) {
+            Ok(after) => Ok(after),
+            Err(NoMemory) => Err(SessionEnd::NoMemory),
+        },
+        Ok(LineEnd::TooLong) => match text.extend_from_slice(TOO_LONG) {
+            Ok(()) => Ok(After::Closing),
+            Err(_) => Err(SessionEnd::NoMemory),
+        },
+        Err(end) => Err(end_of(end, at, line.len())),
+    }
+}
+
+/// Serves one request, or says how the session ends in it.
+fn serve_request<S: Source, O: Sink>(
+    alloc: Global,
+    account: &mut PlainAccount,
+    feed: &mut Feed<'_, S>,
+    sink: &mut O,
+    line: &mut Vec<u8>,
+    text: &mut Vec<u8>,
+) -> Result<After, SessionEnd>
+    requires { limit_of feed.old ≡ input_limit }
+    ensures serves { ServesRequest (S.left (source_of feed.old)) (S.left (source_of feed.new)) (O.written sink.old) (O.written sink.new)
+        (waiting_of feed.old) (waiting_of feed.new) (taken_of feed.old) (taken_of feed.new) (handed_of feed.old) (handed_of feed.new)
+        account.old account.new result }
+    ensures same_source { source_name feed.new ≡ source_name feed.old }
+    ensures same_limit { limit_of feed.new ≡ input_limit }
+    ensures within { taken_of feed.new ≤ input_limit }
+    ensures progress { OnOk result (handed_of feed.old < handed_of feed.new) }
+    ensures read_fault { result ≡ Err SessionEnd.ReadFault → Rose (S.faults (source_of feed.old)) (S.faults (source_of feed.new)) }
+    ensures read_kept { result ≢ Err SessionEnd.ReadFault → S.faults (source_of feed.new) ≡ S.faults (source_of feed.old) }
+    ensures write_fault { result ≡ Err SessionEnd.WriteFault → Rose (O.faults sink.old) (O.faults sink.new) }
+    ensures write_kept { result ≢ Err SessionEnd.WriteFault → O.faults sink.new ≡ O.faults sink.old }
+{
+    line.clear();
+    text.clear();
+    match take_request(alloc, account, feed, line, text) {
+        Ok(after) => match send(sink, text) {
+            Ok(()) => Ok(after),
+            Err(Failed) => Err(SessionEnd::WriteFault),
+        },
+        Err(end) => Err(end),
+    }
+}
+
+/// Serves request after request to the session's end.
+fn serve_all<S: Source, O: Sink>(alloc: Global, account: &mut PlainAccount, feed: &mut Feed<'_, S>, sink: &mut O) -> SessionEnd
+    requires limit { limit_of feed.old ≡ input_limit }
+    requires empty { waiting_of feed.old ≡ [] }
+    requires untaken { taken_of feed.old ≡ 0 }
+    requires at_start { handed_of feed.old ≡ 0 }
+    ensures served { IsServed (S.left (source_of feed.old)) (S.left (source_of feed.new)) (O.written sink.old) (O.written sink.new) account.old account.new result }
+    ensures same_source { source_name feed.new ≡ source_name feed.old }
+    ensures read_fault { result ≡ SessionEnd.ReadFault → Rose (S.faults (source_of feed.old)) (S.faults (source_of feed.new)) }
+    ensures read_kept { result ≢ SessionEnd.ReadFault → S.faults (source_of feed.new) ≡ S.faults (source_of feed.old) }
+    ensures write_fault { result ≡ SessionEnd.WriteFault → Rose (O.faults sink.old) (O.faults sink.new) }
+    ensures write_kept { result ≢ SessionEnd.WriteFault → O.faults sink.new ≡ O.faults sink.old }
+{
+    let mut line = Vec::new(alloc);
+    let mut text = Vec::new(alloc);
+    loop {
+        match serve_request(alloc, account, feed, sink, &mut line, &mut text) {
+            Ok(After::Open) => {}
+            Ok(After::Closing) => return SessionEnd::Closed,
+            Ok(After::Stopping) => return SessionEnd::Stopped,
+            Err(end) => return end,
+        }
+    }
+}
+
+/// Serves a session to its end: IMAP for the account's owner, over the bytes of the source, into the sink.
+///
+/// At most 1073741824 bytes are taken.
+pub fn run_session<S: Source, O: Sink>(alloc: Global, account: &mut PlainAccount, source: &mut S, sink: &mut O) -> SessionEnd
+    // What is written answers what is read, each reply being the account machine's at its call's place in the one history.
+    ensures session { IsSession (S.left source.old) (S.left source.new) (O.written sink.old) (O.written sink.new) account.old account.new result }
+
+    // A fault is told where it came, and only there.
+    ensures read_fault { result ≡ SessionEnd.ReadFault → Rose (S.faults source.old) (S.faults source.new) }
+    ensures read_kept { result ≢ SessionEnd.ReadFault → S.faults source.new ≡ S.faults source.old }
+    ensures write_fault { result ≡ SessionEnd.WriteFault → Rose (O.faults sink.old) (O.faults sink.new) }
+    ensures write_kept { result ≢ SessionEnd.WriteFault → O.faults sink.new ≡ O.faults sink.old }
+
+    // Where nothing failed, the input decides the end, but for want of memory.
+    ensures decided { IfSome (S.left source.old) (λ input. (due : End) → InputEnds imap input_limit input due
+        → (Rose (S.faults source.old) (S.faults source.new) → ⊥) → (Rose (O.faults sink.old) (O.faults sink.new) → ⊥)
+        → (result ≡ due) ⊎ (result ≡ SessionEnd.NoMemory)) }
+{
+    if let Err(Failed) = send(sink, GREETING) {
+        return SessionEnd::WriteFault;
+    }
+    match Feed::new(source, INPUT_LIMIT) {
+        Ok(mut feed) => serve_all(alloc, account, &mut feed, sink),
+        Err(_) => unreachable!(),
+    }
+}
