@@ -1,3 +1,4 @@
 pub mod Owning
 pub mod Lines
 pub mod Taking
+pub mod Running
