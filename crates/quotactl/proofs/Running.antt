@@ -1,17 +1,18 @@
 -- A session, request by request.
-use Rattle.std.proofs.Common.{true, ◌≡◌, ◌≢◌, ◌+◌, ◌-◌, ◌<◌, ◌≤◌, ◌⊎◌, ℕ, suc, zero, List, [], ◌∷◌, ◌++◌, length, take, drop, Option, Some, None, Result, Ok, Err, refl, sym, ap, ◌∙◌, subst, append_assoc, append-nil, inl, inr, arith, length-append, take-append-drop}
+use Rattle.std.proofs.Common.{true, ◌≡◌, ◌≢◌, ◌+◌, ◌-◌, ◌<◌, ◌≤◌, ◌⊎◌, ℕ, suc, zero, List, [], ◌∷◌, ◌++◌, length, take, drop, Option, Some, None, IfSome, Result, Ok, Err, refl, sym, ap, ◌∙◌, subst, append_assoc, append-nil, inl, inr, arith, length-append, take-append-drop}
 use Rattle.std.specs.Io.KnownBytes.{Consumes, Appends, Keeps, IsAtEnd}
 use Rattle.std.proofs.KnownBytes.{Appends-nil, Appends-trans, Appends-kept, Consumes-nil}
 use Rattle.wire_io.specs.declared.ends.After.{After}
 use Rattle.wire_io.specs.declared.ends.After.TheVariants.{Open, Closing, Stopping}
 use Rattle.wire_io.specs.declared.ends.SessionEnd.{SessionEnd}
-use Rattle.wire_io.specs.declared.ends.SessionEnd.TheVariants.{Closed, Stopped, WriteFault}
+use Rattle.wire_io.specs.declared.ends.SessionEnd.TheVariants.{Closed, Stopped, ReadFault, WriteFault, NoMemory}
 use Rattle.wire_io.specs.Feeding.{Hands}
 use Rattle.wire_io.specs.Sending.{AppendsPart}
 use Rattle.wire_io.specs.Protocol.{Spells}
-use Rattle.wire_io.specs.Session.{Exchange, bytes_of, log_of, text_of, IsExchange, Exchanges, Ends, IsWorked, Session, CutInText, Finishes, IsFront}
+use Rattle.wire_io.specs.Session.{Exchange, bytes_of, log_of, text_of, IsExchange, Exchanges, Ends, IsWorked, Session, CutInText, Finishes, IsFront, InputEnds}
 use Rattle.wire_io.proofs.FeedLemmas.{Hands-nil, Hands-trans, length-Hands}
 use Rattle.wire_io.proofs.Cuts.{some_byte}
+use Rattle.wire_io.proofs.Deciding.{end_decided}
 use Rattle.account_core.specs.declared.calls.Call.{Call}
 use Rattle.account_core.specs.History.{Answer, Book}
 use Rattle.quotactl.specs.Imap.{Request, imap}
@@ -173,3 +174,18 @@ module _ (left mid left' written sent written' : Option (List ℕ)) (waiting wai
   pub closes : after ≡ Closing → taken' ≤ input_limit → IsServed left left' written written' account account' Closed
   closes is within = reached_close left mid left' written sent written' waiting waiting' taken taken' at at' account between account' r
       (subst (λ (a : After). ServesRequest mid left' sent written' waiting waiting' taken taken' at at' between account' (Ok a)) is s) within
+
+-- where nothing failed, the input decides the end
+pub decided_by : (left left' written written' : Option (List ℕ)) (account account' : Book) (end : SessionEnd) (R W : Type 0) → IsSession left left' written written' account account' end
+    → (end ≡ ReadFault → R) → (end ≡ WriteFault → W)
+    → IfSome left (λ input. (due : SessionEnd) → InputEnds imap input_limit input due → (R → ⊥) → (W → ⊥) → (end ≡ due) ⊎ (end ≡ NoMemory))
+decided_by None left' written written' account account' end R W s read write = tt
+decided_by (Some input) None written written' account account' end R W s read write = absurd s.consumed
+decided_by (Some input) (Some rest) written written' account account' end R W s read write = λ due ends unread unwritten.
+    end_decided imap input_limit imap_filled input s.taken rest s.log s.text end due s.consumed s.session ends ((λ e. unread (read e)), (λ e. unwritten (write e)))
+
+-- the same session, of a source that is known by another name
+pub session_of : (left given left' kept written written' : Option (List ℕ)) (account account' : Book) (end : SessionEnd) → given ≡ left → kept ≡ left'
+    → IsSession given left' written written' account account' end → IsSession left kept written written' account account' end
+session_of left given left' kept written written' account account' end e f s =
+    subst (λ l. IsSession left l written written' account account' end) (sym f) (subst (λ l. IsSession l left' written written' account account' end) e s)

@@ -1,21 +1,35 @@
-use Rattle.std.proofs.Common.{rules, ◌≡◌, ◌≢◌, ◌≤◌, ◌⊎◌, ◌++◌, ℕ, [], ◌∷◌, length, ◌<◌, OnOk, OnErr, IfOk, IfSome, ◌+◌, ◌-◌, ◌*◌, ◌/◌, ◌%◌, Bool, true, false, nat_eq, nat_lt, List, slice_index_or, slice_set, bit_and, bit_or, Fits, w8, w32, w64, Bor, MutBor}
-use Rattle.wire_io.specs.Lines.{IsLine}
-use Rattle.quotactl.specs.Imap.{max_text, imap}
+use Rattle.std.proofs.Common.{rules, ◌≡◌, ap}
+use Rattle.wire_io.specs.declared.ends.SessionEnd.TheVariants.{ReadFault, WriteFault}
 use Rattle.wire_io.specs.Causes.{Rose}
-use Rattle.wire_io.specs.Feeds.{source_of, source_name, waiting_of, taken_of, handed_of, limit_of}
-use Rattle.wire_io.specs.Session.{InputEnds}
-use Rattle.wire_io.specs.declared.ends.SessionEnd.{SessionEnd as End}
-use Rattle.quotactl.specs.Serving.{input_limit, end_at, TakesRequest, ServesRequest, IsServed, IsSession, AnswersQuota, LeavesQuota, AnswersCommand, LeavesCommand, Answered, Abandoned}
+use Rattle.wire_io.specs.Feeds.{source_of}
+use Rattle.quotactl.specs.Serving.{IsSession}
+use Rattle.quotactl.proofs.Running.{greeted, not_greeted, decided_by, session_of}
 use Rattle.quotactl.proofs.session.run_session.Goals as goal
 
--- src/session.rt:222:9
 pub returns-in-Err-clause-session : goal.returns-in-Err-clause-session
-returns-in-Err-clause-session g c = ?
+returns-in-Err-clause-session g c =
+    not_greeted (g.S.Source.left c.args.source.now) (g.O.Sink.written c.args.sink.now) (g.O.Sink.written c.send.new.sink) c.args.account.now c.in-Err.ensures.cut
 
--- src/session.rt:206:1
 pub returns-clause-session : goal.returns-clause-session
-returns-clause-session g c = ?
+returns-clause-session g c =
+    let left = g.S.Source.left in
+    let kept : c.source-1.given.0 ≡ source_of c.serve_all.new.feed = search rules in
+    session_of (left c.args.source.now) (left (source_of c.in-Ok.feed)) (left (source_of c.serve_all.new.feed)) (left c.source-1.given.0)
+        (g.O.Sink.written c.args.sink.now) (g.O.Sink.written c.serve_all.new.sink) c.args.account.now c.serve_all.new.account c.serve_all.result
+        (ap left c.in-Ok.ensures.source) (ap left kept)
+        (greeted (left (source_of c.in-Ok.feed)) (left (source_of c.serve_all.new.feed)) (g.O.Sink.written c.args.sink.now) (g.O.Sink.written c.send.new.sink) (g.O.Sink.written c.serve_all.new.sink)
+            c.args.account.now c.serve_all.new.account c.serve_all.result c.in_default.ensures.sent c.serve_all.ensures.served)
 
--- src/session.rt:206:1
 pub returns-clause-decided : goal.returns-clause-decided
-returns-clause-decided g c = ?
+returns-clause-decided g c =
+    let left = g.S.Source.left in
+    let kept : c.source-1.given.0 ≡ source_of c.serve_all.new.feed = search rules in
+    let read : c.serve_all.result ≡ ReadFault → Rose (g.S.Source.faults c.args.source.now) (g.S.Source.faults c.source-1.given.0) = search rules in
+    let write : c.serve_all.result ≡ WriteFault → Rose (g.O.Sink.faults c.args.sink.now) (g.O.Sink.faults c.serve_all.new.sink) = search rules in
+    let session : IsSession (left c.args.source.now) (left c.source-1.given.0) (g.O.Sink.written c.args.sink.now) (g.O.Sink.written c.serve_all.new.sink) c.args.account.now c.serve_all.new.account c.serve_all.result =
+        session_of (left c.args.source.now) (left (source_of c.in-Ok.feed)) (left (source_of c.serve_all.new.feed)) (left c.source-1.given.0)
+        (g.O.Sink.written c.args.sink.now) (g.O.Sink.written c.serve_all.new.sink) c.args.account.now c.serve_all.new.account c.serve_all.result
+        (ap left c.in-Ok.ensures.source) (ap left kept)
+        (greeted (left (source_of c.in-Ok.feed)) (left (source_of c.serve_all.new.feed)) (g.O.Sink.written c.args.sink.now) (g.O.Sink.written c.send.new.sink) (g.O.Sink.written c.serve_all.new.sink)
+            c.args.account.now c.serve_all.new.account c.serve_all.result c.in_default.ensures.sent c.serve_all.ensures.served) in
+    decided_by (left c.args.source.now) (left c.source-1.given.0) (g.O.Sink.written c.args.sink.now) (g.O.Sink.written c.serve_all.new.sink) c.args.account.now c.serve_all.new.account c.serve_all.result _ _ session read write
