@@ -9,7 +9,7 @@ mod name;
 mod totals;
 mod units;
 
-pub use digits::number_in;
+pub use digits::{number_in, numeral_in};
 pub use flags::Flags;
 pub use limits::{LimitError, Limits, limit_of_units};
 pub use memory::NoMemory;

@@ -1,3 +1,5 @@
 pub mod Texts
 pub mod Imap
 pub mod Serving
+pub mod Owner
+pub mod Control

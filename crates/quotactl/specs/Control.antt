@@ -1,0 +1,52 @@
+-- What the program does with its words.
+use Rattle.std.specs.Prelude.{◌≡◌, ◌≤◌, ◌<◌, ◌*◌, ℕ, List, [], ◌∷◌, codes, Option, Some, None}
+use Rattle.std.specs.Io.KnownBytes.{Appends, Keeps}
+use Rattle.std.specs.Fmt.{decimal}
+use Rattle.wire_io.specs.Sending.{AppendsPart}
+use Rattle.wire_io.specs.Transcript.{Transcript, transcript}
+use Rattle.wire_io.specs.declared.ends.SessionEnd.{SessionEnd}
+use Rattle.wire_io.specs.declared.ends.SessionEnd.TheVariants.{Closed, Stopped, Truncated, InputLimit, ReadFault, WriteFault, NoMemory}
+use Rattle.account_core.specs.History.{Book}
+use Rattle.account_core.specs.Plain.{plain_opened}
+use Rattle.quotactl.specs.Imap.{imap}
+use Rattle.quotactl.specs.Owner.{owner}
+use Rattle.quotactl.specs.Serving.{input_limit, IsSession}
+
+-- the words `session N`: N in decimal digits, with no sign and no leading zero
+pub record IsForm (words : List (List ℕ)) (n : ℕ) : Type 0 where
+  pub words_are : words ≡ codes "session" ∷ decimal n ∷ []
+  pub some : 0 < n
+  pub bounded : n ≤ 8796093022207
+
+-- the words are of no form that is built
+abbrev pub IsNoForm : List (List ℕ) → Type 0
+IsNoForm words = (n : ℕ) → IsForm words n → ⊥
+
+abbrev pub status_of : SessionEnd → ℕ
+status_of Closed = 0
+status_of Stopped = 0
+status_of (Truncated at) = 3
+status_of InputLimit = 11
+status_of ReadFault = 4
+status_of WriteFault = 5
+status_of NoMemory = 6
+
+abbrev pub usage_line : List ℕ
+usage_line = codes "usage: quotactl session N | imap [ACCOUNT] | jmap | policy | recalc ACCOUNT | check | workload N\n"
+
+-- an account with so many units of storage, before its first call
+abbrev pub fresh : ℕ → Book
+fresh n = record { opened = plain_opened (record { octets = Some (1024 * n); count = None }); history = [] }
+
+-- the session of such an account that an input gives
+abbrev pub session_of : ℕ → List ℕ → Transcript
+session_of n input = transcript imap owner input_limit (fresh n) input
+
+pub data Controls (words : List (List ℕ)) (left left' written written' : Option (List ℕ)) (status : ℕ) : Type 0 where
+  -- a session of an account with N units
+  runs : (n : ℕ) (account' : Book) (end : SessionEnd) → IsForm words n → IsSession left left' written written' (fresh n) account' end → status ≡ status_of end
+      → Controls words left left' written written' status
+  -- the words are of no form, and the usage line says so
+  refuses : IsNoForm words → Keeps left left' → Appends written written' usage_line → status ≡ 1 → Controls words left left' written written' status
+  -- or a front of it does
+  breaks_off : IsNoForm words → Keeps left left' → AppendsPart written written' usage_line → status ≡ 5 → Controls words left left' written written' status
