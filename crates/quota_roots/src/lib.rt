@@ -1,6 +1,10 @@
 //! Quota roots, and which of them govern which mailbox.
 #![tactic(auto)]
 
+mod mailbox;
 mod root;
+mod root_set;
 
+pub use mailbox::{canonical_name, is_mailbox_name};
 pub use root::RootSpec;
+pub use root_set::RootSet;

@@ -5,12 +5,14 @@ mod digits;
 mod flags;
 mod limits;
 mod name;
+mod resource;
 mod totals;
 mod units;
 
 pub use digits::number_in;
 pub use flags::Flags;
-pub use limits::{LimitError, Limits, limit_of_units};
+pub use limits::{LimitError, Limits, limit_of_count, limit_of_units};
 pub use name::{Name, NameError};
+pub use resource::{Resource, resource_named};
 pub use totals::Totals;
 pub use units::units_up;

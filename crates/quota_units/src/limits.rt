@@ -1,4 +1,4 @@
-ghost use Rattle.std.specs.Prelude.{◌≡◌, ◌*◌, ◌<◌, ◌↔◌, IsTrue, IfOk, IfSome, IsSome, IsErrOf};
+ghost use Rattle.std.specs.Prelude.{◌≡◌, ◌*◌, ◌<◌, ◌≤◌, ◌↔◌, IsTrue, IfOk, IsOk, IfSome, IsSome, IsErrOf};
 ghost use Rattle.quota_units.specs.Limiting.{IsLimit, AreLimits};
 
 use std::marker::Model;
@@ -93,4 +93,24 @@ pub fn limit_of_units(n: u64) -> Result<u64, LimitError>
         return Err(LimitError::TooLarge(n));
     }
     Ok(1024 * n)
+}
+
+/// A limit of `n` messages, from 1 to 8796093022207.
+///
+/// # Errors
+///
+/// `Zero` where `n` is 0, and `TooLarge` where it is above 8796093022207.
+pub fn limit_of_count(n: u64) -> Result<u64, LimitError>
+    ensures ok { IsOk result ↔ ((1 ≤ n) × (n ≤ MAX_LIMIT)) }
+    ensures value { IfOk result (λ count. count ≡ n) }
+    ensures zero { IsErrOf result LimitError.Zero ↔ (n ≡ 0) }
+    ensures too_large { IsErrOf result (LimitError.TooLarge n) ↔ (MAX_LIMIT < n) }
+{
+    if n == 0 {
+        return Err(LimitError::Zero);
+    }
+    if n > MAX_LIMIT {
+        return Err(LimitError::TooLarge(n));
+    }
+    Ok(n)
 }

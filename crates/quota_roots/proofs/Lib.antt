@@ -1,0 +1,4 @@
+pub mod PrefixLemmas
+pub mod MemberLemmas
+pub mod SetLemmas
+pub mod MailboxLemmas
