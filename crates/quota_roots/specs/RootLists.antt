@@ -1,5 +1,5 @@
 -- Lists of quota roots: what they may be called, which mailboxes they may have, and where each stands. A root's number is its place.
-use Rattle.std.specs.Prelude.{◌≡◌, ◌≤◌, ℕ, Bool, not, ◌&&◌, List, [], length, take, position, slice_get, codes, bytes_eq, nat_eq, nat_le, Option, None, Some}
+use Rattle.std.specs.Prelude.{◌≡◌, ◌<◌, ◌≤◌, ℕ, Bool, not, ◌&&◌, List, [], length, take, position, slice_get, codes, bytes_eq, nat_eq, nat_le, Option, None, Some}
 use Rattle.std.specs.List.{list_all, list_any, enumerate_from}
 use Rattle.std.specs.Option.{option_map_or}
 use Rattle.quota_roots.specs.declared.root.RootSpec.{RootSpec}
@@ -43,3 +43,13 @@ place_of roots name = position (λ spec. bytes_eq spec.name name) roots
 -- the name of the root of this number
 abbrev pub name_at : List RootSpec → ℕ → List ℕ
 name_at roots root = option_map_or (λ spec. spec.name) (slice_get roots root) []
+
+-- The refusals of a list, in their order.
+abbrev pub IsTooMany : List RootSpec → ℕ → Type 0
+IsTooMany roots count = (4 < length roots) × (count ≡ length roots)
+
+abbrev pub IsBadName : List RootSpec → ℕ → Type 0
+IsBadName roots at = (length roots ≤ 4) × (first_bad_name roots ≡ Some at)
+
+abbrev pub IsDouble : List RootSpec → ℕ → Type 0
+IsDouble roots at = (length roots ≤ 4) × (first_bad_name roots ≡ None) × (first_double roots ≡ Some at)

@@ -4,7 +4,9 @@
 mod mailbox;
 mod root;
 mod root_set;
+mod roots;
 
 pub use mailbox::{canonical_name, is_mailbox_name};
 pub use root::RootSpec;
 pub use root_set::RootSet;
+pub use roots::{Roots, RootsError};
