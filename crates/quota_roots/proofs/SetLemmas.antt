@@ -1,12 +1,15 @@
 -- Sets of roots as bits. What holds of each of the sixteen sets and each of the four roots is computed.
-use Rattle.std.proofs.Common.{◌≡◌, ℕ, ◌*◌, ◌/◌, ◌%◌, ◌^◌, ◌<◌, Bool, true, false, not, ◌&&◌, ◌||◌, ◌↔◌, List, [], ◌∷◌, ◌++◌, eqb, ltb, bit_and, bit_or, arith, refl, sym, ◌∙◌, ap}
+use Rattle.std.proofs.Common.{◌≡◌, ℕ, zero, suc, ◌*◌, ◌/◌, ◌%◌, ◌^◌, ◌<◌, Bool, true, false, not, ◌&&◌, ◌||◌, ◌↔◌, List, [], ◌∷◌, ◌++◌, eqb, ltb, bit_and, bit_or, arith, refl, sym, ◌∙◌, ap}
 use Rattle.std.specs.Cmp.{booleans_Decides}
-use Rattle.std.specs.List.{All, Contains, list_all}
+use Rattle.std.specs.List.{All, Contains, list_all, range_with_len}
+use Rattle.std.specs.List.Sorted.{IsStrictlyIncreasing}
+use Rattle.std.specs.Int.{bit_at}
 use Rattle.std.specs.Str.{bytes_eq}
 use mathlib.Core.Bool.{beq}
 use Rattle.std.proofs.lemmas.Bool.{agree_below, agree_below_at, ltb-true, lt-ltb, and_parts, not_from_true}
 use Rattle.std.proofs.lemmas.List.Elements.{All-contains, All-weaker}
 use Rattle.std.proofs.lemmas.Slice.Eq.{bytes_eq-Decides}
+use Rattle.std.proofs.lemmas.List.Kept.{IsStrictlyIncreasing-filter}
 use Rattle.std.proofs.lemmas.List.Sums.{list_all-from_AllPass, AllPass-from_list_all}
 use Rattle.quota_roots.specs.RootSets.{members}
 use Rattle.quota_roots.proofs.MemberLemmas.{is_in, is_in-from_Contains, Contains-from_is_in}
@@ -51,11 +54,24 @@ bit_tells bits root small under =
     let same = (booleans_Decides _ _).0 (each_set_at tells tells_each bits root small under) in
     (λ set. Contains-from_is_in _ root (sym same ∙ set), λ has. same ∙ is_in-from_Contains _ root has)
 
-pub members_low : (bits root : ℕ) → bits < 16 → Contains (members bits) root → root < 4
+pub all_low : (bits : ℕ) → bits < 16 → All (λ other. other < 4) (members bits)
 unfolding low
-members_low bits root small has =
+all_low bits small =
     let all = AllPass-from_list_all (λ other. ltb other 4) (members bits) (each_set_at low low_each bits 0 small (omega arith)) in
-    ltb-true root 4 (All-contains (λ other. ltb other 4 ≡ true) (members bits) root all has)
+    All-weaker (λ other. ltb other 4 ≡ true) (λ other. other < 4) (λ other h. ltb-true other 4 h) (members bits) all
+
+pub members_low : (bits root : ℕ) → bits < 16 → Contains (members bits) root → root < 4
+members_low bits root small has = All-contains (λ other. other < 4) (members bits) root (all_low bits small) has
+
+numbers_in_order : IsStrictlyIncreasing (range_with_len 0 4)
+numbers_in_order zero below = omega arith
+numbers_in_order (suc zero) below = omega arith
+numbers_in_order (suc (suc zero)) below = omega arith
+numbers_in_order (suc (suc (suc k))) below = absurd (omega arith)
+
+pub in_order : (bits : ℕ) → IsStrictlyIncreasing (members bits)
+unfolding members
+in_order bits = IsStrictlyIncreasing-filter (λ root. eqb (bit_at bits root) 1) (range_with_len 0 4) numbers_in_order
 
 added : (bits root : ℕ) → bits < 16 → root < 4 → All (λ other. other < root) (members bits)
     → (ltb (with_bit bits root) 16 && bytes_eq (members (with_bit bits root)) (members bits ++ root ∷ [])) ≡ true

@@ -9,4 +9,4 @@ mod roots;
 pub use mailbox::{canonical_name, is_mailbox_name};
 pub use root::RootSpec;
 pub use root_set::RootSet;
-pub use roots::{Roots, RootsError};
+pub use roots::{MAX_ROOTS, Roots, RootsError};

@@ -34,7 +34,7 @@ pub fn is_mailbox_name(bytes: &[u8]) -> bool
     let mut at_edge = true;
     for byte in bytes {
         let dot = *byte == b'.';
-        if !is_mailbox_byte(*byte) || dot && at_edge {
+        if !is_mailbox_byte(*byte) || (dot && at_edge) {
             return false;
         }
         at_edge = dot;

@@ -1,4 +1,5 @@
 ghost use Rattle.std.specs.Prelude.{◌≡◌, ◌<◌, ◌↔◌, [], ◌∷◌, ◌++◌, IsTrue, All, Contains};
+ghost use Rattle.std.specs.List.Sorted.{IsStrictlyIncreasing};
 
 use std::marker::Model;
 
@@ -42,9 +43,11 @@ impl RootSet {
     }
 
     /// Whether the root of this number is in the set.
-    #[tactic(auto, using(crate::proofs::SetLemmas::bit_tells))]
+    #[tactic(auto, using(crate::proofs::SetLemmas::bit_tells, crate::proofs::SetLemmas::all_low, crate::proofs::SetLemmas::in_order))]
     pub fn has(self, root: u32) -> bool
-        ensures { IsTrue result ↔ Contains self root }
+        ensures value { IsTrue result ↔ Contains self root }
+        ensures low { All (λ other. other < 4) self }
+        ensures ordered { IsStrictlyIncreasing self }
     {
         let RootSet(bits) = self;
         root < 4 && bits >> root & 1 == 1

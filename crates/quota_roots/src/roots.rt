@@ -11,6 +11,9 @@ use quota_units::Name;
 use std::marker::Model;
 use thiserror::Error;
 
+/// The most quota roots that an account has.
+pub const MAX_ROOTS: u32 = 4;
+
 /// Why a list of quota roots is refused. A place counts from 0.
 #[derive(Clone, Copy, Debug, PartialEq, Eq, Error)]
 pub enum RootsError {
@@ -136,7 +139,7 @@ impl Roots {
         ensures bad_name { (at : ℕ) → IsErrOf result (RootsError.BadName at) ↔ IsBadName specs.items at }
         ensures double { (at : ℕ) → IsErrOf result (RootsError.Double at) ↔ IsDouble specs.items at }
     {
-        if specs.len() > 4 {
+        if specs.len() > MAX_ROOTS as usize {
             return Err(RootsError::TooMany { count: specs.len() });
         }
         if let Some(at) = first_bad_name(&specs) {
