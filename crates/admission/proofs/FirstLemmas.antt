@@ -1,9 +1,9 @@
 -- The first root of a set that a message does not fit.
-use Rattle.std.proofs.Common.{◌≡◌, ℕ, zero, suc, ◌+◌, ◌<◌, ◌≤◌, Bool, true, false, cond, not, ◌&&◌, List, [], ◌∷◌, length, get_or, Option, Some, None, arith, refl, sym, ◌∙◌, ap, subst, inl, inr}
+use Rattle.std.proofs.Common.{◌≡◌, ℕ, zero, suc, ◌<◌, Bool, true, false, cond, not, ◌&&◌, List, [], ◌∷◌, length, get_or, Option, Some, None, arith, refl, sym, ◌∙◌, ap, inl, inr}
 use Rattle.std.specs.List.{All, AllPairs, Contains, filter_map, cons_option, slice_get}
 use Rattle.std.specs.List.Sorted.{IsStrictlyIncreasing}
 use Rattle.std.specs.Option.{option_map}
-use Rattle.std.proofs.lemmas.Bool.{cases_eq, true≢false}
+use Rattle.std.proofs.lemmas.Bool.{cases_eq}
 use Rattle.std.proofs.lemmas.List.{get_or_read}
 use Rattle.std.proofs.lemmas.List.Elements.{All-contains, Contains-get_or}
 use Rattle.std.proofs.lemmas.List.Kept.{AllPairs-from_increasing}
@@ -40,11 +40,12 @@ first_at : (h : ℕ → Option Resource) (roots : List ℕ) (n : ℕ) (resource 
     → slice_get (filter_map (named h) roots) 0 ≡ Some (n, resource)
 first_at h [] n resource order none has over = absurd (omega (arith, has.1))
 first_at h (x ∷ xs) n resource order none has over = elim (cases_eq x n) [
-    inl same ↦ taken h x xs resource (ap h same ∙ over) ∙ ap (λ k. Some (k, resource)) same
+  | inl same ↦ taken h x xs resource (ap h same ∙ over) ∙ ap (λ k. Some (k, resource)) same
   | inr other ↦
-        let later = in_rest x xs n other has in
-        let no = none x (head_below x xs n order later) (0, omega arith, refl) in
-        ap (λ ps. slice_get ps 0) (skipped h x xs no) ∙ first_at h xs n resource (rest_in_order x xs order) (λ k below in_xs. none k below (behind x xs k in_xs)) later over ]
+      let later = in_rest x xs n other has in
+      let no = none x (head_below x xs n order later) (0, omega arith, refl) in
+      ap (λ ps. slice_get ps 0) (skipped h x xs no) ∙ first_at h xs n resource (rest_in_order x xs order) (λ k below in_xs. none k below (behind x xs k in_xs)) later over
+]
 
 no_first : (h : ℕ → Option Resource) (roots : List ℕ) → ((k : ℕ) → Contains roots k → h k ≡ None) → slice_get (filter_map (named h) roots) 0 ≡ None
 no_first h [] none = refl

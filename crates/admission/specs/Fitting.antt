@@ -1,5 +1,5 @@
 -- Whether a message fits the limits of quota roots: RFC 9208, section 4.3.1 (OVERQUOTA). Usage may equal a limit.
-use Rattle.std.specs.Prelude.{◌≡◌, ℕ, ◌+◌, Bool, true, not, ◌&&◌, IsTrue, List, slice_get, slice_index_or, filter_map, nat_le, All, Option, Some, None, option_map, if◌then◌else◌}
+use Rattle.std.specs.Prelude.{ℕ, ◌+◌, Bool, true, not, ◌&&◌, IsTrue, List, slice_get, slice_index_or, filter_map, nat_le, All, Option, Some, None, option_map, if◌then◌else◌}
 use Rattle.quota_units.specs.Limiting.{LimitNumbers}
 use Rattle.quota_units.specs.declared.totals.Totals.{Totals}
 use Rattle.quota_units.specs.declared.resource.Resource.{Resource}

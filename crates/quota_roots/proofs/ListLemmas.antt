@@ -1,6 +1,6 @@
 -- The first root with the name of one before.
 use Rattle.std.proofs.Common.{◌≡◌, ℕ, ◌+◌, ◌<◌, ◌≤◌, Bool, true, false, cond, List, [], ◌∷◌, length, take, get_or, ltb, Option, Some, None, arith, refl, ◌∙◌, ap, lt-ltb, le-ltb}
-use Rattle.std.specs.List.{enumerate_from, position, position_or_len}
+use Rattle.std.specs.List.{enumerate_from, position_or_len}
 use Rattle.std.proofs.lemmas.List.FromFn.{length-enumerate_from, get_or-enumerate_from}
 use Rattle.std.proofs.lemmas.List.Sums.{position_or_len_is}
 use Rattle.quota_roots.specs.declared.root.RootSpec.{RootSpec}
@@ -23,8 +23,8 @@ place : (roots : List RootSpec) (at : ℕ) (d : RootSpec) → at ≤ length root
 place roots at d within none here =
     let long = length-enumerate_from 0 roots in
     position_or_len_is (repeats roots) (enumerate_from 0 roots) at (0, d) (omega arith)
-        (λ k below. repeats_at roots k d (omega arith) ∙ none k d below)
-        (λ below. let inside : at < length roots = omega arith in repeats_at roots at d inside ∙ here inside)
+    (λ k below. repeats_at roots k d (omega arith) ∙ none k d below)
+    (λ below. let inside : at < length roots = omega arith in repeats_at roots at d inside ∙ here inside)
 
 found : List RootSpec → ℕ → Option ℕ
 found roots n = cond (ltb n (length (enumerate_from 0 roots))) (Some n) None

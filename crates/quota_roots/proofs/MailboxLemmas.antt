@@ -1,5 +1,5 @@
 -- A mailbox name read from its first byte on.
-use Rattle.std.proofs.Common.{◌≡◌, ℕ, suc, ◌+◌, ◌-◌, ◌<◌, ◌≤◌, Bool, true, false, not, ◌&&◌, ◌||◌, List, [], ◌∷◌, length, drop, get_or, eqb, leb, codes, arith, refl, sym, ◌∙◌, ap, inl, inr, le-leb}
+use Rattle.std.proofs.Common.{◌≡◌, ℕ, suc, ◌+◌, ◌-◌, ◌<◌, ◌≤◌, Bool, true, false, not, ◌&&◌, ◌||◌, List, [], ◌∷◌, length, drop, get_or, eqb, leb, arith, refl, sym, ◌∙◌, ap, inl, inr}
 use Rattle.std.specs.List.{list_all, starts_with, ends_with}
 use Rattle.std.specs.Cmp.Lexicographic.{pointwise}
 use Rattle.std.proofs.lemmas.Bool.{cases_Bool}
@@ -53,8 +53,9 @@ both (b ∷ bs) =
     let doubled = has_double_dot bs in
     let end = ap (λ e. (fits && all) && (not e && not ((eqb 46 b && begins bs) || doubled))) (sym (ends-cons b bs)) in
     let behind : reads false (b ∷ bs) ≡ inside (b ∷ bs) = elim (cases_Bool (eqb b 46)) [
-        inl dot ↦ behind_dot b (length bs) fits all (ends bs) (begins bs) doubled _ dot (ap (λ d. reads d bs) dot ∙ rest.1) ∙ end
-      | inr dot ↦ behind_other b (length bs) fits all (ends bs) (begins bs) doubled _ dot (ap (λ d. reads d bs) dot ∙ rest.0) ∙ end ] in
+      | inl dot ↦ behind_dot b (length bs) fits all (ends bs) (begins bs) doubled _ dot (ap (λ d. reads d bs) dot ∙ rest.1) ∙ end
+      | inr dot ↦ behind_other b (length bs) fits all (ends bs) (begins bs) doubled _ dot (ap (λ d. reads d bs) dot ∙ rest.0) ∙ end
+    ] in
     (behind, at_start b (length bs) fits (reads (eqb b 46) bs) ∙ ap (λ r. leb 1 (suc (length bs)) && (not (begins (b ∷ bs)) && r)) behind)
 
 in_all : (n : ℕ) (all next last doubled : Bool) → n ≤ 200

@@ -1,5 +1,5 @@
 -- Sets of roots as bits. What holds of each of the sixteen sets and each of the four roots is computed.
-use Rattle.std.proofs.Common.{◌≡◌, ℕ, zero, suc, ◌*◌, ◌/◌, ◌%◌, ◌^◌, ◌<◌, Bool, true, false, not, ◌&&◌, ◌||◌, ◌↔◌, List, [], ◌∷◌, ◌++◌, eqb, ltb, bit_and, bit_or, arith, refl, sym, ◌∙◌, ap}
+use Rattle.std.proofs.Common.{◌≡◌, ℕ, zero, suc, ◌*◌, ◌/◌, ◌%◌, ◌^◌, ◌<◌, Bool, true, not, ◌&&◌, ◌||◌, ◌↔◌, [], ◌∷◌, ◌++◌, eqb, ltb, bit_and, bit_or, arith, refl, sym, ◌∙◌, ap}
 use Rattle.std.specs.Cmp.{booleans_Decides}
 use Rattle.std.specs.List.{All, Contains, list_all, range_with_len}
 use Rattle.std.specs.List.Sorted.{IsStrictlyIncreasing}

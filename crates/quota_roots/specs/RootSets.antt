@@ -1,5 +1,5 @@
 -- Sets of root numbers below four, as bits: bit k is set where root k is in the set.
-use Rattle.std.specs.Prelude.{◌≡◌, ℕ, ◌^◌, ◌<◌, Bool, true, List, filter, nat_eq, sum_by, refl}
+use Rattle.std.specs.Prelude.{◌≡◌, ℕ, ◌^◌, ◌<◌, true, List, filter, nat_eq, sum_by, refl}
 use Rattle.std.specs.List.{range_with_len}
 use Rattle.std.specs.Int.{bit_at}
 use Rattle.std.proofs.lemmas.Bool.{agree_below_at, eqb-true}

@@ -5,6 +5,8 @@ mod mailbox;
 mod root;
 mod root_set;
 mod roots;
+#[cfg(test)]
+mod tests;
 
 pub use mailbox::{canonical_name, is_mailbox_name};
 pub use root::RootSpec;

@@ -32,7 +32,10 @@ fn first_bad_name(specs: &[RootSpec]) -> Option<usize>
     ensures value { result ≡ first_bad_name specs.now }
     ensures within { IfSome result (λ at. at < length specs.now) }
 {
-    specs.iter().enumerate().position(|(at, spec)| !is_root_at(at, spec))
+    specs
+        .iter()
+        .enumerate()
+        .position(|(at, spec)| !is_root_at(at, spec))
 }
 
 fn is_root_at(root: usize, spec: &RootSpec) -> bool

@@ -15,11 +15,12 @@ loop-root-preserved c =
     let root = c.loop-root.root in
     let P : ℕ → Type 0 = λ k. Contains c.args.roots k → over_at limits totals c.args.octets k ≡ None in
     let here : P root = elim c.else-has.branch [
-        else-has-via-else-has w ↦ λ has. absurd (false≢true (sym w.if-has.false ∙ c.has.ensures.value.1 has))
+      | else-has-via-else-has w ↦ λ has. absurd (false≢true (sym w.if-has.false ∙ c.has.ensures.value.1 has))
       | else-has-via-then-has+in-None-1 w ↦ λ has.
-            let none : w.over.result ≡ None = cc in
-            let inside = All-contains (λ k. k < length limits) c.args.roots root c.requires.known has in
-            over_read limits totals c.args.octets root w.index-limits-root.result inside w.index-limits-root.is ∙ (sym w.over.ensures ∙ none) ] in
+          let none : w.over.result ≡ None = cc in
+          let inside = All-contains (λ k. k < length limits) c.args.roots root c.requires.known has in
+          over_read limits totals c.args.octets root w.index-limits-root.result inside w.index-limits-root.is ∙ (sym w.over.ensures ∙ none)
+    ] in
     record { low = λ _. c.has.ensures.low; none = below_more P root c.loop-root.invariant.none here }
 
 first : (c : goal.In-Some) → first_over c.args.limits.now c.args.totals.now c.args.roots c.args.octets ≡ Some (c.loop-root.root, c.in-Some.resource)

@@ -1,4 +1,4 @@
-use Rattle.std.proofs.Common.{◌<◌, List, ℕ, Contains, sym, subst, lt-ltb, ltb-true, arith}
+use Rattle.std.proofs.Common.{List, ℕ, Contains, sym, subst, lt-ltb, ltb-true, arith}
 use Rattle.quota_roots.proofs.SetLemmas.{members_low}
 use Rattle.quota_roots.proofs.root_set.RootSet.has.Goals as goal
 
