@@ -11,7 +11,7 @@ use Rattle.quota_units.specs.Limiting.{LimitNumbers}
 use Rattle.quota_units.specs.declared.totals.Totals.{Totals}
 use Rattle.quota_units.specs.declared.resource.Resource.{Resource}
 use Rattle.quota_units.specs.declared.resource.Resource.TheVariants.{Storage, Message}
-use Rattle.admission.specs.Fitting.{over, first_over, limits_at, totals_at, storage_fits, number_fits, FitsEach}
+use Rattle.admission.specs.Fitting.{over, first_over, limits_at, totals_at, fits_root, FitsEach}
 
 abbrev named : (ℕ → Option Resource) → ℕ → Option (ℕ × Resource)
 named h root = option_map (λ resource. (root, resource)) (h root)
@@ -87,7 +87,7 @@ fits_each limits totals roots octets n low none k d inside =
 pub fits_not_each : (limits : List LimitNumbers) (totals : List Totals) (roots : List ℕ) (octets n : ℕ) (resource : Resource) → Contains roots n
     → over_at limits totals octets n ≡ Some resource → FitsEach limits totals roots octets → ⊥
 fits_not_each limits totals roots octets n resource has some fits =
-    choice_over _ _ resource some (All-contains (λ root. (storage_fits (limits_at limits root) (totals_at totals root) octets && number_fits (limits_at limits root) (totals_at totals root)) ≡ true) roots n fits has)
+    choice_over _ _ resource some (All-contains (λ root. fits_root (limits_at limits root) (totals_at totals root) octets ≡ true) roots n fits has)
 
 -- with the limits that a root's place gives
 pub over_read : (limits : List LimitNumbers) (totals : List Totals) (octets root : ℕ) (read : LimitNumbers) → root < length limits → read ≡ get_or limits root read

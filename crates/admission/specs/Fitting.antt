@@ -10,12 +10,15 @@ abbrev pub allows : Option ℕ → ℕ → Bool
 allows None amount = true
 allows (Some limit) amount = nat_le amount limit
 
--- the octets and the number with the message are allowed
+-- a root with these limits and totals may take the message: its octets, its number, and both
 abbrev pub storage_fits : LimitNumbers → Totals → ℕ → Bool
 storage_fits limits totals octets = allows limits.octets (totals.octets + octets)
 
 abbrev pub number_fits : LimitNumbers → Totals → Bool
 number_fits limits totals = allows limits.count (totals.count + 1)
+
+abbrev pub fits_root : LimitNumbers → Totals → ℕ → Bool
+fits_root limits totals octets = storage_fits limits totals octets && number_fits limits totals
 
 -- the limits and the totals of a root; the number of no root has neither
 abbrev pub limits_at : List LimitNumbers → ℕ → LimitNumbers
@@ -26,10 +29,9 @@ totals_at totals root = slice_index_or totals root (record { octets = 0; count =
 
 -- the message fits each root of the set
 abbrev pub FitsEach : List LimitNumbers → List Totals → List ℕ → ℕ → Type 0
-FitsEach limits totals roots octets =
-    All (λ root. IsTrue (storage_fits (limits_at limits root) (totals_at totals root) octets && number_fits (limits_at limits root) (totals_at totals root))) roots
+FitsEach limits totals roots octets = All (λ root. IsTrue (fits_root (limits_at limits root) (totals_at totals root) octets)) roots
 
--- the resource of which a root with these limits and totals would have too much, storage before messages
+-- the resource of which the root would have too much, storage before messages
 abbrev pub over : LimitNumbers → Totals → ℕ → Option Resource
 over limits totals octets =
     if not (storage_fits limits totals octets) then Some Storage

@@ -17,7 +17,7 @@ pub enum Verdict {
 ///
 /// `limits` and `totals` have an item for each root, by its number. Where the message does not fit, the first root
 /// that it does not fit is named, and for it storage before messages. What equals a limit is within it.
-#[tactic(auto, using(crate::proofs::FirstLemmas::over_first, crate::proofs::FirstLemmas::over_nowhere, crate::proofs::FirstLemmas::fits_each, crate::proofs::FirstLemmas::fits_not_each))]
+#[tactic(auto, using(crate::proofs::FirstLemmas::fits_each, crate::proofs::FirstLemmas::fits_not_each))]
 pub fn admit(limits: &[Limits], totals: &[Totals], roots: RootSet, octets: u64) -> Verdict
     requires same { length limits.now ≡ length totals.now }
     requires known { All (λ root. root < length limits.now) roots }

@@ -44,7 +44,7 @@ place_of roots name = position (λ spec. bytes_eq spec.name name) roots
 abbrev pub name_at : List RootSpec → ℕ → List ℕ
 name_at roots root = option_map_or (λ spec. spec.name) (slice_get roots root) []
 
--- The refusals of a list, in their order.
+-- the refusals of a list, each behind those above it: by the number of roots, by the root at a place, and by its name
 abbrev pub IsTooMany : List RootSpec → ℕ → Type 0
 IsTooMany roots count = (4 < length roots) × (count ≡ length roots)
 

@@ -31,6 +31,7 @@ pub fn is_mailbox_name(bytes: &[u8]) -> bool
     if bytes.len() > 200 {
         return false;
     }
+    // At the start and behind a dot neither a dot nor the end may come.
     let mut at_edge = true;
     for byte in bytes {
         let dot = *byte == b'.';

@@ -3,7 +3,7 @@ ghost use Rattle.std.specs.List.Sorted.{IsStrictlyIncreasing};
 
 use std::marker::Model;
 
-/// A set of roots, by their numbers 0 to 3.
+/// A set of roots, by their numbers 0 to 3. Contracts see the list of the numbers, in order.
 #[tactic(auto, using(crate::specs::RootSets::bits_of_members))]
 #[derive(Clone, Copy, Debug, PartialEq, Eq)]
 pub struct RootSet(u8);
