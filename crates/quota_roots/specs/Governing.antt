@@ -1,6 +1,7 @@
 -- Which roots govern which mailbox. Maildir++ counts every folder but Trash; the roots with a prefix are this project's own.
-use Rattle.std.specs.Prelude.{ℕ, Bool, not, ◌||◌, List, ◌++◌, codes, bytes_eq, nat_eq, Option, None, Some}
-use Rattle.std.specs.List.{starts_with}
+use Rattle.std.specs.Prelude.{ℕ, Bool, false, not, ◌||◌, List, ◌++◌, length, filter, slice_get, codes, bytes_eq, nat_eq, Option, None, Some}
+use Rattle.std.specs.List.{starts_with, range_with_len}
+use Rattle.std.specs.Option.{option_map_or}
 use Rattle.quota_roots.specs.declared.root.RootSpec.{RootSpec}
 
 -- the mailbox of the prefix's name, and those below it
@@ -14,3 +15,11 @@ governs_by (Some prefix) mailbox = is_under prefix mailbox
 -- the root governs the mailbox
 abbrev pub governs : RootSpec → List ℕ → Bool
 governs root mailbox = governs_by root.prefix mailbox
+
+-- the root of this number governs the mailbox; the number of no root governs none
+abbrev pub governs_at : List RootSpec → ℕ → List ℕ → Bool
+governs_at roots root mailbox = option_map_or (λ spec. governs spec mailbox) (slice_get roots root) false
+
+-- the numbers of the roots that govern the mailbox, in order
+abbrev pub governing : List RootSpec → List ℕ → List ℕ
+governing roots mailbox = filter (λ root. governs_at roots root mailbox) (range_with_len 0 (length roots))

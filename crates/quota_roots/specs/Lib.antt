@@ -1,1 +1,4 @@
 pub mod Governing
+pub mod MailboxNames
+pub mod RootLists
+pub mod RootSets

@@ -1,6 +1,14 @@
 //! Quota roots, and which of them govern which mailbox.
 #![tactic(auto)]
 
+mod mailbox;
 mod root;
+mod root_set;
+mod roots;
+#[cfg(test)]
+mod tests;
 
+pub use mailbox::{canonical_name, is_mailbox_name};
 pub use root::RootSpec;
+pub use root_set::RootSet;
+pub use roots::{MAX_ROOTS, Roots, RootsError};

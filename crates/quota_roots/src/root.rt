@@ -1,3 +1,5 @@
+ghost use Rattle.std.specs.Prelude.{◌≡◌};
+
 use quota_units::Name;
 
 /// A quota root: its name, and the prefix of the mailboxes that it governs.
@@ -8,4 +10,28 @@ use quota_units::Name;
 pub struct RootSpec {
     pub name: Name,
     pub prefix: Option<Name>,
+}
+
+impl RootSpec {
+    ghost use Rattle.quota_roots.specs.Governing.{governs, is_under};
+
+    /// Whether the root governs the mailbox of this name.
+    pub fn governs(&self, mailbox: &[u8]) -> bool
+        ensures { result ≡ governs self.now mailbox.now }
+    {
+        match &self.prefix {
+            None => mailbox != b"Trash".as_slice(),
+            Some(prefix) => Self::is_under(prefix.as_slice(), mailbox),
+        }
+    }
+
+    #[tactic(auto, using(crate::proofs::PrefixLemmas::goes_on))]
+    fn is_under(prefix: &[u8], mailbox: &[u8]) -> bool
+        ensures { result ≡ is_under prefix.now mailbox.now }
+    {
+        match mailbox.strip_prefix(prefix) {
+            None => false,
+            Some(rest) => rest.is_empty() || rest[0] == b'.',
+        }
+    }
 }

@@ -1,3 +1,4 @@
 pub mod Units
 pub mod Limiting
 pub mod Digits
+pub mod Resources

@@ -6,13 +6,15 @@ mod flags;
 mod limits;
 mod memory;
 mod name;
+mod resource;
 mod totals;
 mod units;
 
 pub use digits::{number_in, numeral_in};
 pub use flags::Flags;
-pub use limits::{LimitError, Limits, limit_of_units};
+pub use limits::{LimitError, Limits, limit_of_count, limit_of_units};
 pub use memory::NoMemory;
 pub use name::{Name, NameError};
+pub use resource::{Resource, resource_named};
 pub use totals::Totals;
 pub use units::units_up;

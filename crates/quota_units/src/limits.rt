@@ -1,4 +1,4 @@
-ghost use Rattle.std.specs.Prelude.{◌≡◌, ◌*◌, ◌<◌, ◌↔◌, IsTrue, IfOk, IfSome, IsSome, IsErrOf};
+ghost use Rattle.std.specs.Prelude.{◌≡◌, ◌*◌, ◌<◌, ◌≤◌, ◌↔◌, IsTrue, IfOk, IsOk, IfSome, IsSome, IsErrOf};
 ghost use Rattle.quota_units.specs.Limiting.{IsLimit, AreLimits};
 
 use std::marker::Model;
@@ -93,4 +93,49 @@ pub fn limit_of_units(n: u64) -> Result<u64, LimitError>
         return Err(LimitError::TooLarge(n));
     }
     Ok(1024 * n)
+}
+
+/// A limit of `n` messages, from 1 to 8796093022207.
+///
+/// # Errors
+///
+/// `Zero` where `n` is 0, and `TooLarge` where it is above 8796093022207.
+pub fn limit_of_count(n: u64) -> Result<u64, LimitError>
+    ensures ok { IsOk result ↔ ((1 ≤ n) × (n ≤ MAX_LIMIT)) }
+    ensures value { IfOk result (λ count. count ≡ n) }
+    ensures zero { IsErrOf result LimitError.Zero ↔ (n ≡ 0) }
+    ensures too_large { IsErrOf result (LimitError.TooLarge n) ↔ (MAX_LIMIT < n) }
+{
+    if n == 0 {
+        return Err(LimitError::Zero);
+    }
+    if n > MAX_LIMIT {
+        return Err(LimitError::TooLarge(n));
+    }
+    Ok(n)
+}
+
+#[cfg(test)]
+mod tests {
+    use super::*;
+
+    #[test]
+    fn limits_are_refused_below_and_above_their_range(rt: HostRuntime) {
+        let most = 8796093022207;
+        let above = 8796093022208;
+        let table = [
+            (0, Err(LimitError::Zero), Err(LimitError::Zero)),
+            (1, Ok(1024), Ok(1)),
+            (most, Ok(9007199254739968), Ok(most)),
+            (
+                above,
+                Err(LimitError::TooLarge(above)),
+                Err(LimitError::TooLarge(above)),
+            ),
+        ];
+        for (n, units, count) in table {
+            assert_eq!(rt; limit_of_units(n), units);
+            assert_eq!(rt; limit_of_count(n), count);
+        }
+    }
 }

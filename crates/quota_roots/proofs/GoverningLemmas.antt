@@ -1,0 +1,49 @@
+-- The roots that govern a mailbox: one root more, and which they are.
+use Rattle.std.proofs.Common.{◌≡◌, ℕ, ◌+◌, ◌<◌, true, false, cond, ◌↔◌, List, [], ◌∷◌, ◌++◌, length, get_or, arith, sym, ◌∙◌, ap, inl, inr}
+use Rattle.std.specs.List.{All, Contains, filter, range_with_len}
+use Rattle.std.specs.Option.{option_map_or}
+use Rattle.std.proofs.lemmas.Bool.{and_parts, and_from, cases_lt, false≢true}
+use Rattle.std.proofs.lemmas.List.{map-id}
+use Rattle.std.proofs.lemmas.List.Elements.{filter-append, All-filter}
+use Rattle.std.proofs.lemmas.List.FromFn.{map-range_with_len_more, length-range_with_len, get_or-range_with_len}
+use Rattle.std.proofs.lemmas.Option.{slice_get-get_or, slice_get_past}
+use Rattle.quota_roots.specs.declared.root.RootSpec.{RootSpec}
+use Rattle.quota_roots.specs.Governing.{governs, governs_at, governing}
+use Rattle.quota_roots.proofs.MemberLemmas.{is_in-from_Contains, Contains-from_is_in, is_in-filter, range-is_in}
+
+-- those below this number
+abbrev pub governing_below : List RootSpec → List ℕ → ℕ → List ℕ
+governing_below roots mailbox n = filter (λ root. governs_at roots root mailbox) (range_with_len 0 n)
+
+range_push : (n : ℕ) → range_with_len 0 (n + 1) ≡ range_with_len 0 n ++ n ∷ []
+range_push n = sym (map-id (range_with_len 0 (n + 1))) ∙ (map-range_with_len_more (λ x. x) 0 n n (omega arith) ∙ ap (λ xs. xs ++ n ∷ []) (map-id (range_with_len 0 n)))
+
+pub governing_more : (roots : List RootSpec) (mailbox : List ℕ) (n : ℕ)
+    → governing_below roots mailbox (n + 1) ≡ governing_below roots mailbox n ++ cond (governs_at roots n mailbox) (n ∷ []) []
+governing_more roots mailbox n =
+    let p = λ (root : ℕ). governs_at roots root mailbox in
+    ap (filter p) (range_push n) ∙ filter-append p (range_with_len 0 n) (n ∷ [])
+
+pub governs_at_get_or : (roots : List RootSpec) (mailbox : List ℕ) (n : ℕ) (d : RootSpec) → n < length roots → governs_at roots n mailbox ≡ governs (get_or roots n d) mailbox
+governs_at_get_or roots mailbox n d inside = ap (λ o. option_map_or (λ spec. governs spec mailbox) o false) (slice_get-get_or roots n d inside)
+
+pub all_below : (roots : List RootSpec) (mailbox : List ℕ) (n : ℕ) → All (λ root. root < n) (governing_below roots mailbox n)
+all_below roots mailbox n =
+    All-filter (λ root. governs_at roots root mailbox) (λ root. root < n) (range_with_len 0 n)
+    (λ k d inside. omega (arith, inside, length-range_with_len 0 n, get_or-range_with_len 0 n k d (omega (arith, inside, length-range_with_len 0 n))))
+
+within : (roots : List RootSpec) (mailbox : List ℕ) (root : ℕ) → governs_at roots root mailbox ≡ true → root < length roots
+within roots mailbox root governed = elim (cases_lt root (length roots)) [
+  | inl inside ↦ inside
+  | inr past ↦ absurd (false≢true (sym (ap (λ o. option_map_or (λ spec. governs spec mailbox) o false) (slice_get_past roots root past)) ∙ governed))
+]
+
+pub governing_members : (roots : List RootSpec) (mailbox : List ℕ) (root : ℕ) → Contains (governing roots mailbox) root ↔ (governs_at roots root mailbox ≡ true)
+governing_members roots mailbox root =
+    let p = λ (k : ℕ). governs_at roots k mailbox in
+    let numbers = range_with_len 0 (length roots) in
+    let both = is_in-filter p root numbers in (
+      λ has. (and_parts _ _ (sym both ∙ is_in-from_Contains _ root has)).1,
+      λ governed. let inside = within roots mailbox root governed in
+          Contains-from_is_in _ root (both ∙ and_from _ _ (range-is_in root (length roots) 0 (omega arith) (omega arith)) governed),
+    )

@@ -1,0 +1,6 @@
+pub mod PrefixLemmas
+pub mod MemberLemmas
+pub mod SetLemmas
+pub mod MailboxLemmas
+pub mod ListLemmas
+pub mod GoverningLemmas

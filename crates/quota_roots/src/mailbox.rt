@@ -1,0 +1,56 @@
+ghost use Rattle.std.specs.Prelude.{◌≡◌, ◌<◌, ◌↔◌, ◌⊎◌, length, IfOk, IfErr};
+ghost use Rattle.quota_roots.specs.MailboxNames.{canonical, is_mailbox_byte, is_mailbox_name, is_printable};
+
+use quota_units::{Name, NameError};
+use std::alloc::Global;
+
+/// The one spelling of a mailbox name: `INBOX` for `INBOX` in any ASCII case (RFC 9051, section 5.1), and else
+/// the bytes as they are.
+///
+/// # Errors
+///
+/// `TooLong` where there are more than 255 bytes.
+pub fn canonical_name(alloc: Global, bytes: &[u8]) -> Result<Name, NameError>
+    ensures ok { IfOk result (λ name. name ≡ canonical bytes.now) }
+    ensures too_long { (result ≡ Err (NameError.TooLong (length bytes.now))) ↔ (255 < length bytes.now) }
+    ensures only { IfErr result (λ e. (e ≡ NameError.TooLong (length bytes.now)) ⊎ (e ≡ NameError.NoMemory)) }
+{
+    if bytes.eq_ignore_ascii_case(b"INBOX") {
+        Name::of(alloc, b"INBOX")
+    } else {
+        Name::of(alloc, bytes)
+    }
+}
+
+/// Whether the bytes may name a mailbox: 1 to 200 bytes from 0x20 to 0x7E without `/`, `*`, `%`, `"` and `\`,
+/// with `.` neither first nor last nor beside another.
+#[tactic(auto, using(crate::proofs::MailboxLemmas::reads_all, crate::proofs::MailboxLemmas::reads_more, crate::proofs::MailboxLemmas::reads_end))]
+pub fn is_mailbox_name(bytes: &[u8]) -> bool
+    ensures { result ≡ is_mailbox_name bytes.now }
+{
+    if bytes.len() > 200 {
+        return false;
+    }
+    // At the start and behind a dot neither a dot nor the end may come.
+    let mut at_edge = true;
+    for byte in bytes {
+        let dot = *byte == b'.';
+        if !is_mailbox_byte(*byte) || (dot && at_edge) {
+            return false;
+        }
+        at_edge = dot;
+    }
+    !at_edge
+}
+
+fn is_mailbox_byte(byte: u8) -> bool
+    ensures { result ≡ is_mailbox_byte byte }
+{
+    is_printable(byte) && !matches!(byte, b'/' | b'*' | b'%' | b'"' | b'\\')
+}
+
+pub(crate) fn is_printable(byte: u8) -> bool
+    ensures { result ≡ is_printable byte }
+{
+    matches!(byte, 0x20..=0x7E)
+}

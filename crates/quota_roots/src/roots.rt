@@ -1,0 +1,197 @@
+ghost use Rattle.std.specs.Prelude.{◌≡◌, ◌≤◌, ◌<◌, ◌↔◌, ℕ, length, position, All, Contains, IfSome, IsTrue, IfOk, IsErrOf, vec_len, codes, bytes_eq};
+ghost use Rattle.std.specs.List.{list_all};
+ghost use Rattle.quota_roots.specs.Governing.{governs_at, governing};
+ghost use Rattle.quota_roots.specs.MailboxNames.{is_printable};
+ghost use Rattle.quota_roots.specs.RootLists.{first_bad_name, first_double, has_name, is_prefix_at, is_root_at, is_root_name, name_at, place_of, AreRoots, IsBadName, IsDouble, IsTooMany};
+
+use super::mailbox::{is_mailbox_name, is_printable};
+use super::root::RootSpec;
+use super::root_set::RootSet;
+use quota_units::Name;
+use std::marker::Model;
+use thiserror::Error;
+
+/// The most quota roots that an account has.
+pub const MAX_ROOTS: u32 = 4;
+
+/// Why a list of quota roots is refused. A place counts from 0.
+#[derive(Clone, Copy, Debug, PartialEq, Eq, Error)]
+pub enum RootsError {
+    /// There are more than 4 roots.
+    #[error("there are at most 4 quota roots, and not {count}")]
+    TooMany { count: usize },
+    /// The root at this place has a name or a prefix that it may not have, or has no prefix where it needs one.
+    #[error("quota root {at} has a wrong name or prefix")]
+    BadName { at: u32 },
+    /// The root at this place has the name of one before it.
+    #[error("quota root {at} has the name of one before it")]
+    Double { at: u32 },
+}
+
+fn first_bad_name(specs: &[RootSpec]) -> Option<usize>
+    ensures value { result ≡ first_bad_name specs.now }
+    ensures within { IfSome result (λ at. at < length specs.now) }
+{
+    specs
+        .iter()
+        .enumerate()
+        .position(|(at, spec)| !is_root_at(at, spec))
+}
+
+fn is_root_at(root: usize, spec: &RootSpec) -> bool
+    ensures { result ≡ is_root_at root spec.now }
+{
+    is_root_name(spec.name.as_slice()) && is_prefix_at(root, &spec.prefix)
+}
+
+fn is_root_name(name: &[u8]) -> bool
+    ensures { result ≡ is_root_name name.now }
+{
+    name.len() <= 64 && is_printed(name)
+}
+
+fn is_printed(text: &[u8]) -> bool
+    ensures { result ≡ list_all is_printable text.now }
+{
+    text.iter().all(|byte| is_printable(*byte))
+}
+
+fn is_prefix_at(root: usize, prefix: &Option<Name>) -> bool
+    ensures { result ≡ is_prefix_at root prefix.now }
+{
+    match prefix {
+        None => root == 0,
+        Some(name) => {
+            let prefix = name.as_slice();
+            root != 0 && is_mailbox_name(prefix) && prefix != b"Trash".as_slice()
+        }
+    }
+}
+
+fn has_name(specs: &[RootSpec], name: &[u8]) -> bool
+    ensures { result ≡ has_name specs.now name.now }
+{
+    specs.iter().any(|spec| spec.name.as_slice() == name)
+}
+
+fn place_of(specs: &[RootSpec], name: &[u8]) -> Option<usize>
+    ensures { result ≡ place_of specs.now name.now }
+{
+    specs.iter().position(|spec| spec.name.as_slice() == name)
+}
+
+#[tactic(auto, using(crate::proofs::ListLemmas::double_here, crate::proofs::ListLemmas::double_nowhere))]
+fn first_double(specs: &[RootSpec]) -> Option<usize>
+    ensures value { result ≡ first_double specs.now }
+    ensures within { IfSome result (λ at. at < length specs.now) }
+{
+    for (at, spec) in specs.iter().enumerate() {
+        if has_name(&specs[..at], spec.name.as_slice()) {
+            return Some(at);
+        }
+    }
+    None
+}
+
+#[tactic(auto, using(crate::proofs::GoverningLemmas::governing_more, crate::proofs::GoverningLemmas::governs_at_get_or, crate::proofs::GoverningLemmas::all_below))]
+fn roots_of(specs: &[RootSpec], mailbox: &[u8]) -> RootSet
+    requires { length specs.now ≤ 4 }
+    ensures { result ≡ governing specs.now mailbox.now }
+{
+    let mut roots = RootSet::none();
+    for (root, spec) in specs.iter().enumerate() {
+        if spec.governs(mailbox) {
+            roots = roots.with(root as u32);
+        }
+    }
+    roots
+}
+
+/// The quota roots of an account: 1 to 4, each with a name of its own. Their numbers are their places, from 0 on.
+#[derive(Debug, Drop)]
+pub struct Roots {
+    specs: Vec<RootSpec>,
+}
+
+impl Model for Roots {
+    ghost use Rattle.std.specs.Prelude.{List};
+    ghost use Rattle.quota_roots.specs.declared.root.RootSpec.{RootSpec};
+    ghost use Rattle.quota_roots.specs.RootLists.{AreRoots};
+
+    ghost Value = { List RootSpec };
+
+    ghost view = { λ r. r.specs.items };
+
+    ghost invariant = { λ r. AreRoots r.specs.items };
+}
+
+impl Roots {
+    /// The roots of this list.
+    ///
+    /// Root 0 has no prefix, and each other root has a mailbox name other than `Trash`. A name is at most 64 bytes
+    /// from 0x20 to 0x7E.
+    ///
+    /// # Errors
+    ///
+    /// `TooMany` above 4 roots; else `BadName` at the first root whose name or prefix is not so; else `Double` at the
+    /// first root with the name of one before it.
+    pub fn new(specs: Vec<RootSpec>) -> Result<Roots, RootsError>
+        requires { 0 < vec_len specs }
+        ensures ok { IfOk result (λ roots. roots ≡ specs.items) }
+        ensures too_many { (count : ℕ) → IsErrOf result (RootsError.TooMany count) ↔ IsTooMany specs.items count }
+        ensures bad_name { (at : ℕ) → IsErrOf result (RootsError.BadName at) ↔ IsBadName specs.items at }
+        ensures double { (at : ℕ) → IsErrOf result (RootsError.Double at) ↔ IsDouble specs.items at }
+    {
+        if specs.len() > MAX_ROOTS as usize {
+            return Err(RootsError::TooMany { count: specs.len() });
+        }
+        if let Some(at) = first_bad_name(&specs) {
+            return Err(RootsError::BadName { at: at as u32 });
+        }
+        if let Some(at) = first_double(&specs) {
+            return Err(RootsError::Double { at: at as u32 });
+        }
+        Ok(Roots { specs })
+    }
+
+    /// How many roots there are: 1 to 4.
+    pub fn count(&self) -> u32
+        ensures value { result ≡ length self.now }
+        ensures roots { AreRoots self.now }
+    {
+        self.specs.len() as u32
+    }
+
+    /// The name of the root of this number.
+    pub fn name(&self, root: u32) -> &[u8]
+        requires { root < length self.now }
+        ensures { result.now ≡ name_at self.now root }
+    {
+        self.specs[root as usize].name.as_slice()
+    }
+
+    /// The number of the root of this name.
+    pub fn find(&self, name: &[u8]) -> Option<u32>
+        ensures { result ≡ place_of self.now name.now }
+    {
+        place_of(&self.specs, name).map(|at| at as u32)
+    }
+
+    /// Whether the root of this number governs the mailbox of this name.
+    pub fn governs(&self, root: u32, mailbox: &[u8]) -> bool
+        requires { root < length self.now }
+        ensures { result ≡ governs_at self.now root mailbox.now }
+    {
+        self.specs[root as usize].governs(mailbox)
+    }
+
+    /// The roots that govern the mailbox of this name.
+    #[tactic(auto, using(crate::proofs::GoverningLemmas::governing_members, crate::proofs::GoverningLemmas::all_below))]
+    pub fn roots_of(&self, mailbox: &[u8]) -> RootSet
+        ensures value { result ≡ governing self.now mailbox.now }
+        ensures members { (root : ℕ) → Contains result root ↔ IsTrue (governs_at self.now root mailbox.now) }
+        ensures below { All (λ root. root < length self.now) result }
+    {
+        roots_of(&self.specs, mailbox)
+    }
+}
