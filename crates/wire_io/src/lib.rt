@@ -14,3 +14,6 @@ pub use laws::{an_input_decides_the_end, an_input_decides_the_session, each_text
 pub use memory::{MemSink, MemSource};
 pub use real::{StdSink, StdSource};
 pub use source::{Sink, Source, send};
+
+#[cfg(test)]
+mod tests;
