@@ -5,6 +5,7 @@ mod ends;
 mod feed;
 mod laws;
 mod memory;
+mod piece;
 mod real;
 mod source;
 
