@@ -5,7 +5,7 @@ use super::{
 };
 use std::alloc::{AllocError, Global};
 use std::io;
-use std::io::{ErrorKind, Read, Write};
+use std::io::{ErrorKind, Write};
 use std::test::Fail;
 
 /// A source of this text, which fails one read, or none for 0.
@@ -22,28 +22,28 @@ fn source(alloc: Global, text: &[u8], piece: usize, fail: u64) -> Result<MemSour
 #[test]
 fn a_feed_ends_at_the_end_at_a_fault_and_at_its_limit(rt: HostRuntime) -> Result<(), Fail> {
     let alloc = rt.alloc();
-    let mut ends = source(alloc, b"ab\nc", 1, 0)?;
-    let mut feed = Feed::new(&mut ends, 100)?;
-    let mut out = Vec::new(alloc);
-    assert_eq!(rt; feed.line(&mut out, 100), Ok(LineEnd::Whole));
-    assert_eq!(rt; out.as_slice(), b"ab\n".as_slice());
-    assert_eq!(rt; feed.exact(&mut out, 2), Err(FeedEnd::Ended));
-    assert_eq!(rt; out.as_slice(), b"ab\nc".as_slice());
-    assert_eq!(rt; feed.at(), 4);
-
-    let mut fails = source(alloc, b"ab\nc", 1, 2)?;
-    let mut feed = Feed::new(&mut fails, 100)?;
-    let mut out = Vec::new(alloc);
-    assert_eq!(rt; feed.line(&mut out, 100), Err(FeedEnd::Fault));
-    assert_eq!(rt; out.as_slice(), b"a".as_slice());
-    assert_eq!(rt; feed.line(&mut out, 100), Ok(LineEnd::Whole));
-    assert_eq!(rt; out.as_slice(), b"ab\n".as_slice());
-
-    let mut more = source(alloc, b"ab\nc", 1, 0)?;
-    let mut feed = Feed::new(&mut more, 2)?;
-    let mut out = Vec::new(alloc);
-    assert_eq!(rt; feed.line(&mut out, 100), Err(FeedEnd::Limit));
-    assert_eq!(rt; out.as_slice(), b"ab".as_slice());
+    // The read that fails and the feed's limit; how a line ends, what is handed out, how two bytes more end, and what is handed out.
+    let cases = [
+        (
+            0,
+            100,
+            Ok(LineEnd::Whole),
+            "ab\n",
+            Err(FeedEnd::Ended),
+            "ab\nc",
+        ),
+        (2, 100, Err(FeedEnd::Fault), "a", Ok(()), "ab\n"),
+        (0, 2, Err(FeedEnd::Limit), "ab", Err(FeedEnd::Limit), "ab"),
+    ];
+    for (fail, limit, line, first, exact, both) in cases {
+        let mut source = source(alloc, b"ab\nc", 1, fail)?;
+        let mut feed = Feed::new(&mut source, limit)?;
+        let mut out = Vec::new(alloc);
+        assert_eq!(rt; feed.line(&mut out, 100), line, "with {fail} and {limit}");
+        assert_eq!(rt; out.as_slice(), first.as_bytes());
+        assert_eq!(rt; feed.exact(&mut out, 2), exact, "with {fail} and {limit}");
+        assert_eq!(rt; out.as_slice(), both.as_bytes());
+    }
     Ok(())
 }
 
@@ -165,21 +165,43 @@ fn a_read_asks_for_4096_bytes_unless_the_limit_is_nearer(rt: HostRuntime) -> Res
 
 #[test]
 fn a_sink_in_memory_fails_when_told_and_when_full(rt: HostRuntime) -> Result<(), Fail> {
-    let alloc = rt.alloc();
-    let mut fails = Vec::new(alloc);
+    let mut fails = Vec::new(rt.alloc());
     fails.push(2)?;
-    let mut sink = MemSink::new(alloc, 2, 5, fails)?;
-    assert_eq!(rt; sink.write(b"abc"), Ok(2));
-    assert_eq!(rt; sink.write(b"abc"), Err(Failed));
-    assert_eq!(rt; send(&mut sink, b"cde"), Ok(()));
-    assert_eq!(rt; sink.as_slice(), b"abcde".as_slice());
-    assert_eq!(rt; send(&mut sink, b""), Ok(()));
-    assert_eq!(rt; send(&mut sink, b"f"), Err(Failed));
-    assert_eq!(rt; sink.as_slice(), b"abcde".as_slice());
+    let mut sink = MemSink::new(rt.alloc(), 2, 5, fails)?;
+    // What is offered; how the write ends, and what is written then.
+    let cases = [
+        ("abc", Ok(2), "ab"),
+        ("abc", Err(Failed), "ab"),
+        ("cde", Ok(2), "abcd"),
+        ("efg", Ok(1), "abcde"),
+        ("f", Err(Failed), "abcde"),
+    ];
+    for (offered, end, written) in cases {
+        assert!(rt; offered.len() > 0);
+        assert_eq!(rt;
+            sink.write(offered.as_bytes()),
+            end,
+            "a write of {offered:?}"
+        );
+        assert_eq!(rt; sink.as_slice(), written.as_bytes());
+    }
+    Ok(())
+}
 
-    let mut small = MemSink::new(alloc, 9, 3, Vec::new(alloc))?;
-    assert_eq!(rt; send(&mut small, b"abcde"), Err(Failed));
-    assert_eq!(rt; small.as_slice(), b"abc".as_slice());
+#[test]
+fn all_or_a_front_is_sent(rt: HostRuntime) -> Result<(), Fail> {
+    let mut sink = MemSink::new(rt.alloc(), 2, 5, Vec::new(rt.alloc()))?;
+    // What is sent; how that ends, and what is written then.
+    let cases = [
+        ("abc", Ok(()), "abc"),
+        ("", Ok(()), "abc"),
+        ("def", Err(Failed), "abcde"),
+        ("", Ok(()), "abcde"),
+    ];
+    for (sent, end, written) in cases {
+        assert_eq!(rt; send(&mut sink, sent.as_bytes()), end, "a send of {sent:?}");
+        assert_eq!(rt; sink.as_slice(), written.as_bytes());
+    }
     Ok(())
 }
 
@@ -205,31 +227,34 @@ impl Write for Flushed {
 }
 
 #[test]
-fn std_readers_and_writers_are_sources_and_sinks(rt: HostRuntime) -> Result<(), Fail> {
-    let alloc = rt.alloc();
-    let mut reader = StdSource::new(b"one\ntwo".as_slice());
-    let mut feed = Feed::new(&mut reader, 100)?;
-    let mut out = Vec::new(alloc);
-    assert_eq!(rt; feed.line(&mut out, 100), Ok(LineEnd::Whole));
-    assert_eq!(rt; feed.line(&mut out, 100), Err(FeedEnd::Ended));
+fn a_reader_is_a_source(rt: HostRuntime) -> Result<(), Fail> {
+    let mut source = StdSource::new(b"one\ntwo".as_slice());
+    let mut feed = Feed::new(&mut source, 100)?;
+    let mut out = Vec::new(rt.alloc());
+    for end in [Ok(LineEnd::Whole), Err(FeedEnd::Ended)] {
+        assert_eq!(rt; feed.line(&mut out, 100), end);
+    }
     assert_eq!(rt; out.as_slice(), b"one\ntwo".as_slice());
+    Ok(())
+}
 
-    let mut bytes = Vec::new(alloc);
-    let mut writer = StdSink::new(&mut bytes);
-    assert_eq!(rt; send(&mut writer, b"one\n"), Ok(()));
-    drop(writer);
-    assert_eq!(rt; bytes.as_slice(), b"one\n".as_slice());
-
-    let mut flushed = Flushed {
-        bytes: Vec::new(alloc),
+#[test]
+fn a_writer_is_a_sink_and_each_write_is_flushed(rt: HostRuntime) -> Result<(), Fail> {
+    let mut writer = Flushed {
+        bytes: Vec::new(rt.alloc()),
         flushes: 0,
     };
-    let mut writer = StdSink::new(&mut flushed);
-    assert_eq!(rt; send(&mut writer, b"one"), Ok(()));
-    assert_eq!(rt; send(&mut writer, b"two"), Err(Failed));
-    assert_eq!(rt; send(&mut writer, b"three"), Err(Failed));
-    drop(writer);
-    assert_eq!(rt; flushed.flushes, 2);
-    assert_eq!(rt; flushed.bytes.as_slice(), b"onetwo".as_slice());
+    let mut sink = StdSink::new(&mut writer);
+    // The second flush fails, and nothing is written after it.
+    for (sent, end) in [
+        ("one", Ok(())),
+        ("two", Err(Failed)),
+        ("three", Err(Failed)),
+    ] {
+        assert_eq!(rt; send(&mut sink, sent.as_bytes()), end, "a send of {sent:?}");
+    }
+    drop(sink);
+    assert_eq!(rt; writer.flushes, 2);
+    assert_eq!(rt; writer.bytes.as_slice(), b"onetwo".as_slice());
     Ok(())
 }
