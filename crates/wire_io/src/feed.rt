@@ -3,83 +3,10 @@ ghost use Rattle.std.specs.Io.KnownBytes.{Consumes, Keeps, IsAtEnd};
 ghost use Rattle.wire_io.specs.Causes.{HasCause, Rose};
 ghost use Rattle.wire_io.specs.Lines.{HasNoEnd, IsLine};
 
-use super::ends::{Failed, FeedEnd, LineEnd, NoMemory};
+use super::ends::{FeedEnd, LineEnd, NoMemory};
+use super::piece::Piece;
 use super::source::Source;
 use memchr::memchr;
-use std::marker::Model;
-
-/// The most bytes that are taken from a source at once.
-const PIECE: usize = 4096;
-
-/// Bytes that were taken and wait: a part of an array.
-#[derive(Drop)]
-struct Piece {
-    bytes: [u8; 4096],
-    from: usize,
-    to: usize,
-}
-
-impl Model for Piece {
-    ghost use Rattle.std.specs.Prelude.{◌≤◌, ◌-◌, ℕ, List, take, drop};
-
-    ghost Value = { List ℕ };
-
-    ghost view = { λ p. take (p.to - p.from) (drop p.from p.bytes) };
-
-    ghost invariant = { λ p. (p.from ≤ p.to) × (p.to ≤ 4096) };
-}
-
-impl Piece {
-    /// No bytes.
-    fn new() -> Piece
-        ensures { result ≡ [] }
-    {
-        Piece {
-            bytes: [0; 4096],
-            from: 0,
-            to: 0,
-        }
-    }
-
-    /// The bytes.
-    fn as_slice(&self) -> &[u8]
-        ensures { result.now ≡ self.now }
-    {
-        &self.bytes[self.from..self.to]
-    }
-
-    /// How many bytes there are.
-    fn len(&self) -> usize
-        ensures { result ≡ length self.now }
-    {
-        self.to - self.from
-    }
-
-    /// Leaves the first bytes out.
-    #[tactic(auto, using(crate::proofs::PieceLemmas::drop_part))]
-    fn skip(&mut self, count: usize)
-        requires { count ≤ length self.old }
-        ensures { self.new ≡ drop count self.old }
-    {
-        self.from += count;
-    }
-
-    /// Takes bytes from the source in place of none, and says how many.
-    fn fill<S: Source>(&mut self, source: &mut S, most: u64) -> Result<usize, Failed>
-        requires { self.old ≡ [] }
-        ensures most { length self.new ≤ most }
-        ensures bytes { MatchResult result
-            (λ n. (length self.new ≡ n) × Consumes (S.left source.old) (S.left source.new) self.new × (n ≡ 0 → 0 < most → IsAtEnd (S.left source.new)))
-            (λ _. (self.new ≡ []) × Keeps (S.left source.old) (S.left source.new)) }
-        ensures cause { HasCause (S.faults source.old) (S.faults source.new) result }
-    {
-        let room = most.min(4096) as usize;
-        let count = source.read(&mut self.bytes[..room])?;
-        self.from = 0;
-        self.to = count;
-        Ok(count)
-    }
-}
 
 /// How many of the first bytes belong to a line that has room for so many more, and whether they end it.
 fn line_front(bytes: &[u8], room: usize) -> (usize, bool)
@@ -110,8 +37,10 @@ pub struct Feed<'a, S: Source> {
 }
 
 impl<S: Source> Drop for Feed<'_, S> {
+    ghost use Rattle.wire_io.specs.Feeds.{source_of};
+
     fn drop(self)
-        ensures { self.exit.0.now ≡ self.entry.source.now }
+        ensures { self.exit.0.now ≡ source_of self.entry }
     {
         let Feed {
             source: _,
@@ -195,8 +124,10 @@ impl<'a, S: Source> Feed<'a, S> {
             → (source_of self.new ≡ source_of self.old) × (taken_of self.new ≡ taken_of self.old) }
 
         ensures later { S.faults (source_of self.old) ≤ S.faults (source_of self.new) }
-        ensures fault { IsErrOf result FeedEnd.Fault → Rose (S.faults (source_of self.old)) (S.faults (source_of self.new)) }
-        ensures kept { result ≢ Err FeedEnd.Fault → S.faults (source_of self.new) ≡ S.faults (source_of self.old) }
+        ensures fault { IsErrOf result FeedEnd.Fault
+            → Rose (S.faults (source_of self.old)) (S.faults (source_of self.new)) }
+        ensures kept { result ≢ Err FeedEnd.Fault
+            → S.faults (source_of self.new) ≡ S.faults (source_of self.old) }
     {
         let mut room = max;
         while room > 0 {
@@ -250,8 +181,10 @@ impl<'a, S: Source> Feed<'a, S> {
             → (source_of self.new ≡ source_of self.old) × (taken_of self.new ≡ taken_of self.old) }
 
         ensures later { S.faults (source_of self.old) ≤ S.faults (source_of self.new) }
-        ensures fault { IsErrOf result FeedEnd.Fault → Rose (S.faults (source_of self.old)) (S.faults (source_of self.new)) }
-        ensures kept { result ≢ Err FeedEnd.Fault → S.faults (source_of self.new) ≡ S.faults (source_of self.old) }
+        ensures fault { IsErrOf result FeedEnd.Fault
+            → Rose (S.faults (source_of self.old)) (S.faults (source_of self.new)) }
+        ensures kept { result ≢ Err FeedEnd.Fault
+            → S.faults (source_of self.new) ≡ S.faults (source_of self.old) }
     {
         let mut room = count;
         while room > 0 {
@@ -272,11 +205,15 @@ impl<'a, S: Source> Feed<'a, S> {
             (waiting_of self.old) (waiting_of self.new) (taken_of self.old) (taken_of self.new) [] }
         ensures ready { OnOk result (0 < length (waiting_of self.new)) }
         ensures none { OnErr result (waiting_of self.new ≡ []) }
-        ensures unread { 0 < length (waiting_of self.old) → (source_of self.new ≡ source_of self.old) × (taken_of self.new ≡ taken_of self.old) }
-        ensures dry { IfErr result (λ end. IsDry end (S.left (source_of self.new)) (taken_of self.new) (limit_of self.new)) }
+        ensures unread { 0 < length (waiting_of self.old)
+            → (source_of self.new ≡ source_of self.old) × (taken_of self.new ≡ taken_of self.old) }
+        ensures dry { IfErr result (λ end.
+            IsDry end (S.left (source_of self.new)) (taken_of self.new) (limit_of self.new)) }
         ensures later { S.faults (source_of self.old) ≤ S.faults (source_of self.new) }
-        ensures fault { IsErrOf result FeedEnd.Fault → Rose (S.faults (source_of self.old)) (S.faults (source_of self.new)) }
-        ensures kept { result ≢ Err FeedEnd.Fault → S.faults (source_of self.new) ≡ S.faults (source_of self.old) }
+        ensures fault { IsErrOf result FeedEnd.Fault
+            → Rose (S.faults (source_of self.old)) (S.faults (source_of self.new)) }
+        ensures kept { result ≢ Err FeedEnd.Fault
+            → S.faults (source_of self.new) ≡ S.faults (source_of self.old) }
     {
         if self.waiting.len() > 0 {
             return Ok(());

@@ -5,6 +5,7 @@ mod ends;
 mod feed;
 mod laws;
 mod memory;
+mod piece;
 mod real;
 mod source;
 
@@ -14,3 +15,6 @@ pub use laws::{an_input_decides_the_end, an_input_decides_the_session, each_text
 pub use memory::{MemSink, MemSource};
 pub use real::{StdSink, StdSource};
 pub use source::{Sink, Source, send};
+
+#[cfg(test)]
+mod tests;

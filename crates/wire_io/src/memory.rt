@@ -105,7 +105,12 @@ impl MemSink {
     /// # Errors
     ///
     /// `NoMemory` where there is none for the room.
-    pub fn new(alloc: Global, piece: usize, room: usize, fails: Vec<u64>) -> Result<MemSink, NoMemory>
+    pub fn new(
+        alloc: Global,
+        piece: usize,
+        room: usize,
+        fails: Vec<u64>,
+    ) -> Result<MemSink, NoMemory>
         requires { 0 < piece }
         ensures { IfOk result (λ sink. sink ≡ record { written = []; piece = piece; room = room; fails = fails.items; writes = 0; faults = 0 }) }
     {

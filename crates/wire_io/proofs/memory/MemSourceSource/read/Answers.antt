@@ -11,9 +11,10 @@ returns-clause-bytes c =
     let into : List ℕ = c.args.into.now in
     let front : List ℕ = c.copy_from_slice.new.self in
     let left : c.args.self.now.left ≡ drop at bytes = sym (ap (λ s. s.left) c.self.view_is) ∙ ap (drop at) (sym c.deref-2.ensures.value) in
-    let short : n ≤ length (take (length bytes - at) (drop at bytes)) = omega arith in
-    (left ∙ copied_front bytes into front at n short c.copy_from_slice.ensures.after ∙ ap (λ l. take n (front ++ drop n into) ++ drop (at + n) l) c.deref-2.ensures.value,
-     λ none some.
-     let room : 0 < length into = omega (arith, length-append front (drop n into), length-drop n into, length-take n into, c.copy_from_slice.ensures.len) in
-     let end : length bytes ≤ at + n = omega (arith, ap length (slice_from bytes at), length-drop at bytes) in
-     drop_of_length-le c.self.inside.bytes.items (omega (arith, ap length c.deref-2.ensures.value)))
+    let short : n ≤ length (take (length bytes - at) (drop at bytes)) = omega arith in (
+      left ∙ copied_front bytes into front at n short c.copy_from_slice.ensures.after ∙ ap (λ l. take n (front ++ drop n into) ++ drop (at + n) l) c.deref-2.ensures.value,
+      λ none some.
+          let room : 0 < length into = omega (arith, length-append front (drop n into), length-drop n into, length-take n into, c.copy_from_slice.ensures.len) in
+          let end : length bytes ≤ at + n = omega (arith, ap length (slice_from bytes at), length-drop at bytes) in
+          drop_of_length-le c.self.inside.bytes.items (omega (arith, ap length c.deref-2.ensures.value)),
+    )
