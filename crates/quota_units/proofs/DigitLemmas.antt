@@ -1,12 +1,11 @@
 -- One digit more.
-use Rattle.std.proofs.Common.{◌≡◌, ℕ, ◌+◌, ◌-◌, ◌*◌, ◌^◌, ◌<◌, ◌≤◌, List, [], ◌∷◌, length, take, get_or, Bool, true, ◌&&◌, arith, refl, sym, ◌∙◌, ap, subst, length-take, lit<, suc, ltb, leb, lt-ltb, le-leb, false, Option, Some, None, if◌then◌else◌, inl, inr}
+use Rattle.std.proofs.Common.{◌≡◌, ℕ, ◌+◌, ◌-◌, ◌*◌, ◌^◌, ◌<◌, ◌≤◌, List, [], ◌∷◌, length, take, get_or, Bool, true, ◌&&◌, arith, refl, sym, ◌∙◌, ap, subst, length-take, lit<, ltb, leb, lt-ltb, le-leb, false, Some, None, if◌then◌else◌, inl, inr}
 use Rattle.std.specs.Fmt.{decimal}
 use Rattle.std.proofs.lemmas.Fmt.{decimal-digits_value, digits_decimal, digits_value-decimal, decimal_nonempty, length-decimal-le, first_decimal, decimal_digit}
 use Rattle.std.proofs.lemmas.Str.Parse.{IsNumeralModel, numerals_by_value, tells_digits, digit_from_value}
 use Rattle.quota_units.specs.Digits.{number_of}
 use Rattle.std.specs.List.{list_all}
 use Rattle.std.specs.Char.{is_ascii_digit, digit_value}
-use Rattle.std.specs.Int.{IsInRange}
 use Rattle.std.specs.Str.Parse.{digits_value, AllDigits}
 use Rattle.std.proofs.lemmas.Bool.Decides.{nat_tests, leb_tells}
 use Rattle.std.proofs.lemmas.Int.Digits.{digits_value-lt, digits_value_more}
@@ -72,7 +71,7 @@ numeral_is bs n plain e =
     let small : digits_value 10 bs < 2 ^ 64 = omega (arith, below, powers) in
     let one : get_or bs 0 0 ≡ 48 → length bs ≡ 1 = λ zero. one_digit bs some (λ lt. plain lt zero) in
     sym (ap decimal (sym parts.1) ∙ decimal-digits_value own bs digits some one small)
-    where
+  where
     one_digit : (ds : List ℕ) → 0 < length ds → (1 < length ds → ⊥) → length ds ≡ 1
     one_digit [] lt f = absurd (omega (arith, lt))
     one_digit (x ∷ []) lt f = refl
@@ -81,25 +80,28 @@ numeral_is bs n plain e =
 -- and the one spelling of a number is read
 pub numeral_read : (bs : List ℕ) (n : ℕ) → n < 10000000000000000000 → bs ≡ decimal n → (number_of bs ≡ Some n) × (1 < length bs → get_or bs 0 0 ≡ 48 → ⊥)
 numeral_read bs n lt e = (subst (λ l. number_of l ≡ Some n) (sym e) read, plain)
-    where
+  where
     small : n < 2 ^ 64
     small = omega (arith, lt)
+
     read : number_of (decimal n) ≡ Some n
     read =
-      let digits = digits_all (decimal n) (digits_decimal own n small) in
-      let some = lt-ltb 0 (length (decimal n)) (decimal_nonempty n small) in
-      let few = le-leb (length (decimal n)) 19 (length-decimal-le 19 n (lit< tt) lt small) in
-      let test : (ltb 0 (length (decimal n)) && (leb (length (decimal n)) 19 && list_all is_ascii_digit (decimal n))) ≡ true =
-          ap (λ b. b && (leb (length (decimal n)) 19 && list_all is_ascii_digit (decimal n))) some ∙ (ap (λ b. b && list_all is_ascii_digit (decimal n)) few ∙ digits) in
-      ap (λ (b : Bool). if b then Some (digits_value 10 (decimal n)) else None) test ∙ ap Some (digits_value-decimal own n small)
+        let digits = digits_all (decimal n) (digits_decimal own n small) in
+        let some = lt-ltb 0 (length (decimal n)) (decimal_nonempty n small) in
+        let few = le-leb (length (decimal n)) 19 (length-decimal-le 19 n (lit< tt) lt small) in
+        let test : (ltb 0 (length (decimal n)) && (leb (length (decimal n)) 19 && list_all is_ascii_digit (decimal n))) ≡ true =
+        ap (λ b. b && (leb (length (decimal n)) 19 && list_all is_ascii_digit (decimal n))) some ∙ (ap (λ b. b && list_all is_ascii_digit (decimal n)) few ∙ digits) in
+        ap (λ (b : Bool). if b then Some (digits_value 10 (decimal n)) else None) test ∙ ap Some (digits_value-decimal own n small)
+
     plain : 1 < length bs → get_or bs 0 0 ≡ 48 → ⊥
     plain more zero = elim (leb_tells n 0) [
-      inl h ↦
-        let none : n ≡ 0 = omega (arith, h.1) in
-        let one : bs ≡ 48 ∷ [] = e ∙ ap decimal none ∙ decimal_digit 0 (lit< tt) in
-        let sized : length bs ≡ 1 = ap length one in
-        absurd (omega (arith, sized, more))
+      | inl h ↦
+          let none : n ≡ 0 = omega (arith, h.1) in
+          let one : bs ≡ 48 ∷ [] = e ∙ ap decimal none ∙ decimal_digit 0 (lit< tt) in
+          let sized : length bs ≡ 1 = ap length one in
+          absurd (omega (arith, sized, more))
       | inr h ↦
-        let first = first_decimal n (omega (arith, h.1)) small in
-        let same : get_or (decimal n) 0 0 ≡ 48 = ap (λ l. get_or l 0 0) (sym e) ∙ zero in
-        absurd (omega (arith, first, same)) ]
+          let first = first_decimal n (omega (arith, h.1)) small in
+          let same : get_or (decimal n) 0 0 ≡ 48 = ap (λ l. get_or l 0 0) (sym e) ∙ zero in
+          absurd (omega (arith, first, same))
+    ]

@@ -18,3 +18,6 @@ pub use name::{Name, NameError};
 pub use resource::{Resource, resource_named};
 pub use totals::Totals;
 pub use units::units_up;
+
+#[cfg(test)]
+mod tests;

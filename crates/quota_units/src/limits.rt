@@ -82,7 +82,8 @@ fn in_range(limit: Option<u64>) -> bool
 ///
 /// `Zero` where `n` is 0, and `TooLarge` where it is above 8796093022207.
 pub fn limit_of_units(n: u64) -> Result<u64, LimitError>
-    ensures ok { IfOk result (λ octets. octets ≡ 1024 * n) }
+    ensures ok { IsOk result ↔ ((1 ≤ n) × (n ≤ MAX_LIMIT)) }
+    ensures value { IfOk result (λ octets. octets ≡ 1024 * n) }
     ensures zero { IsErrOf result LimitError.Zero ↔ (n ≡ 0) }
     ensures too_large { IsErrOf result (LimitError.TooLarge n) ↔ (MAX_LIMIT < n) }
 {

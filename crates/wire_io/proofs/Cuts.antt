@@ -9,45 +9,47 @@ module _ {State Request Call Answer : Type 0} (p : Protocol State Request Call A
   pub no_longer : (state : State) (bytes more : List ℕ) (q r : Request) → Spells p state bytes q → Spells p state (bytes ++ more) r → more ≡ []
   no_longer state bytes [] q r one other = refl
   no_longer state bytes (b ∷ more) q r one other =
-    let none : p.whole state bytes ≡ None = other.first bytes b more refl in
-    let some : p.whole state bytes ≡ Some q = one.whole in
-    absurd cc
+      let none : p.whole state bytes ≡ None = other.first bytes b more refl in
+      let some : p.whole state bytes ≡ Some q = one.whole in
+      absurd cc
 
   pub one_request : (state : State) (bytes : List ℕ) (q r : Request) → Spells p state bytes q → Spells p state bytes r → q ≡ r
   one_request state bytes q r one other =
-    let a : p.whole state bytes ≡ Some q = one.whole in
-    let b : p.whole state bytes ≡ Some r = other.whole in
-    cc
+      let a : p.whole state bytes ≡ Some q = one.whole in
+      let b : p.whole state bytes ≡ Some r = other.whole in
+      cc
 
   -- two spellings at the front of one text are one
   pub same_front : (state : State) (a b u v : List ℕ) (q r : Request) → Spells p state a q → Spells p state b r → a ++ u ≡ b ++ v → (b ≡ a) × (r ≡ q) × (v ≡ u)
   same_front state a b u v q r one other e = elim (fronts a b u v e) [ inl h ↦ longer h.0 h.1 | inr h ↦ shorter h.0 h.1 h.2 ]
     where
-    equal : b ≡ a → (b ≡ a) × (r ≡ q) × (v ≡ u)
-    equal i =
-      let spelled : Spells p state a r = subst (λ l. Spells p state l r) i other in
-      (i, one_request state a r q spelled one, sym (append_cancel_left a u v (e ∙ ap (λ l. l ++ v) i)))
-    longer : (m : List ℕ) → b ≡ a ++ m → (b ≡ a) × (r ≡ q) × (v ≡ u)
-    longer m i =
-      let none = no_longer state a m q r one (subst (λ l. Spells p state l r) i other) in
-      equal (i ∙ ap (λ l. a ++ l) none ∙ append-nil a)
-    shorter : (x : ℕ) (m : List ℕ) → a ≡ b ++ x ∷ m → (b ≡ a) × (r ≡ q) × (v ≡ u)
-    shorter x m i =
-      let none = no_longer state b (x ∷ m) r q other (subst (λ l. Spells p state l q) i one) in
-      absurd cc
+      equal : b ≡ a → (b ≡ a) × (r ≡ q) × (v ≡ u)
+      equal i =
+          let spelled : Spells p state a r = subst (λ l. Spells p state l r) i other in
+          (i, one_request state a r q spelled one, sym (append_cancel_left a u v (e ∙ ap (λ l. l ++ v) i)))
+
+      longer : (m : List ℕ) → b ≡ a ++ m → (b ≡ a) × (r ≡ q) × (v ≡ u)
+      longer m i =
+          let none = no_longer state a m q r one (subst (λ l. Spells p state l r) i other) in
+          equal (i ∙ ap (λ l. a ++ l) none ∙ append-nil a)
+
+      shorter : (x : ℕ) (m : List ℕ) → a ≡ b ++ x ∷ m → (b ≡ a) × (r ≡ q) × (v ≡ u)
+      shorter x m i =
+          let none = no_longer state b (x ∷ m) r q other (subst (λ l. Spells p state l q) i one) in
+          absurd cc
 
   -- a rest has no spelling at its front
   pub no_front : (state : State) (rest own behind : List ℕ) (q : Request) → IsRest p state rest → Spells p state own q → rest ≡ own ++ behind → ⊥
   no_front state rest own behind q less spelled e =
-    let more = less.front.0 in
-    let whole : Spells p state (own ++ (behind ++ more)) less.front.1 = subst (λ l. Spells p state l less.front.1) (ap (λ l. l ++ more) e ∙ append_assoc own behind more) less.front.2 in
-    let none = no_longer state own (behind ++ more) q less.front.1 spelled whole in
-    let gone = front_nil behind more none in
-    less.unspelled q (subst (λ l. Spells p state l q) (sym (e ∙ ap (λ l. own ++ l) gone ∙ append-nil own)) spelled)
+      let more = less.front.0 in
+      let whole : Spells p state (own ++ (behind ++ more)) less.front.1 = subst (λ l. Spells p state l less.front.1) (ap (λ l. l ++ more) e ∙ append_assoc own behind more) less.front.2 in
+      let none = no_longer state own (behind ++ more) q less.front.1 spelled whole in
+      let gone = front_nil behind more none in
+      less.unspelled q (subst (λ l. Spells p state l q) (sym (e ∙ ap (λ l. own ++ l) gone ∙ append-nil own)) spelled)
     where
-    front_nil : (a b : List ℕ) → a ++ b ≡ [] → a ≡ []
-    front_nil [] b i = refl
-    front_nil (x ∷ a) b i = absurd cc
+      front_nil : (a b : List ℕ) → a ++ b ≡ [] → a ≡ []
+      front_nil [] b i = refl
+      front_nil (x ∷ a) b i = absurd cc
 
   -- no front of the text is a whole request
   abbrev pub NoneWhole : State → List ℕ → Type 0
@@ -60,8 +62,9 @@ module _ {State Request Call Answer : Type 0} (p : Protocol State Request Call A
 
   first_push : (state : State) (come : List ℕ) (b : ℕ) → IsFirst p state come → p.whole state come ≡ None → IsFirst p state (come ++ b ∷ [])
   first_push state come b first none front x more e = elim (front_of_push come b front x more e) [
-    inl same ↦ subst (λ l. p.whole state l ≡ None) same none
-    | inr h ↦ first front h.0 h.1 h.2 ]
+    | inl same ↦ subst (λ l. p.whole state l ≡ None) same none
+    | inr h ↦ first front h.0 h.1 h.2
+  ]
 
   at_end : (state : State) (come : List ℕ) → IsFirst p state come → p.whole state come ≡ None → NoneWhole state come
   at_end state come first none front [] e = subst (λ l. p.whole state l ≡ None) (e ∙ append-nil front) none
@@ -69,22 +72,22 @@ module _ {State Request Call Answer : Type 0} (p : Protocol State Request Call A
 
   pub first_is : (state : State) (come rest : List ℕ) → IsFirst p state come → IsFind state (come ++ rest) (first_request p state come rest)
   first_is state come [] first =
-    elim (p.whole state come) as (λ o. p.whole state come ≡ o → IsFind state (come ++ []) (or_later o come [] None)) [
-      None ↦ λ none. subst (NoneWhole state) (sym (append-nil come)) (at_end state come first none)
-      | Some q ↦ λ some. (record { whole = some; first = first }, refl)
-    ] refl
+      elim (p.whole state come) as (λ o. p.whole state come ≡ o → IsFind state (come ++ []) (or_later o come [] None)) [
+        | None ↦ λ none. subst (NoneWhole state) (sym (append-nil come)) (at_end state come first none)
+        | Some q ↦ λ some. (record { whole = some; first = first }, refl)
+      ] refl
   first_is state come (b ∷ bs) first =
-    elim (p.whole state come) as (λ o. p.whole state come ≡ o → IsFind state (come ++ b ∷ bs) (or_later o come (b ∷ bs) (first_request p state (come ++ b ∷ []) bs))) [
-      None ↦ λ none. subst (λ text. IsFind state text (first_request p state (come ++ b ∷ []) bs)) (append_assoc come (b ∷ []) bs) (first_is state (come ++ b ∷ []) bs (first_push state come b first none))
-      | Some q ↦ λ some. (record { whole = some; first = first }, refl)
-    ] refl
+      elim (p.whole state come) as (λ o. p.whole state come ≡ o → IsFind state (come ++ b ∷ bs) (or_later o come (b ∷ bs) (first_request p state (come ++ b ∷ []) bs))) [
+        | None ↦ λ none. subst (λ text. IsFind state text (first_request p state (come ++ b ∷ []) bs)) (append_assoc come (b ∷ []) bs) (first_is state (come ++ b ∷ []) bs (first_push state come b first none))
+        | Some q ↦ λ some. (record { whole = some; first = first }, refl)
+      ] refl
 
   nothing_first : (state : State) → IsFirst p state []
   nothing_first state front b more e = absurd (nil_not front b more e)
     where
-    nil_not : (front : List ℕ) (b : ℕ) (more : List ℕ) → [] ≡ front ++ b ∷ more → ⊥
-    nil_not [] b more i = cc
-    nil_not (x ∷ front) b more i = cc
+      nil_not : (front : List ℕ) (b : ℕ) (more : List ℕ) → [] ≡ front ++ b ∷ more → ⊥
+      nil_not [] b more i = cc
+      nil_not (x ∷ front) b more i = cc
 
   pub find_is : (state : State) (text : List ℕ) → IsFind state text (first_request p state [] text)
   find_is state text = first_is state [] text (nothing_first state)
@@ -92,20 +95,21 @@ module _ {State Request Call Answer : Type 0} (p : Protocol State Request Call A
   -- a text none of whose fronts is whole is less than a request
   pub rest_of : IsFilled p → (state : State) (text : List ℕ) → NoneWhole state text → IsRest p state text
   rest_of filled state text none =
-    let more = (filled.fills state text).0 in
-    let q = (filled.fills state text).1 in
-    let some = (filled.fills state text).2 in
-    record {
-      unspelled = λ r spelled. let here : p.whole state text ≡ Some r = spelled.whole in let gone : p.whole state text ≡ None = none text [] (sym (append-nil text)) in absurd cc;
-      front = found more (first_request p state [] (text ++ more)) (find_is state (text ++ more)) q some;
-    }
+      let more = (filled.fills state text).0 in
+      let q = (filled.fills state text).1 in
+      let some = (filled.fills state text).2 in
+      record {
+        unspelled = λ r spelled. let here : p.whole state text ≡ Some r = spelled.whole in let gone : p.whole state text ≡ None = none text [] (sym (append-nil text)) in absurd cc;
+        front = found more (first_request p state [] (text ++ more)) (find_is state (text ++ more)) q some;
+      }
     where
-    found : (more : List ℕ) (o : Option (Found Request)) → IsFind state (text ++ more) o → (q : Request) → p.whole state (text ++ more) ≡ Some q
-        → (m : List ℕ) × (r : Request) × Spells p state (text ++ m) r
-    found more None is q some = let gone : p.whole state (text ++ more) ≡ None = is (text ++ more) [] (sym (append-nil (text ++ more))) in absurd cc
-    found more (Some f) is q some = elim (fronts text f.own more f.behind is.1) [
-      inl h ↦ (h.0, f.request, subst (λ l. Spells p state l f.request) h.1 is.0)
-      | inr h ↦ let gone : p.whole state f.own ≡ None = none f.own (h.0 ∷ h.1) h.2 in let here : p.whole state f.own ≡ Some f.request = is.0.whole in absurd cc ]
+      found : (more : List ℕ) (o : Option (Found Request)) → IsFind state (text ++ more) o → (q : Request) → p.whole state (text ++ more) ≡ Some q
+          → (m : List ℕ) × (r : Request) × Spells p state (text ++ m) r
+      found more None is q some = let gone : p.whole state (text ++ more) ≡ None = is (text ++ more) [] (sym (append-nil (text ++ more))) in absurd cc
+      found more (Some f) is q some = elim (fronts text f.own more f.behind is.1) [
+        | inl h ↦ (h.0, f.request, subst (λ l. Spells p state l f.request) h.1 is.0)
+        | inr h ↦ let gone : p.whole state f.own ≡ None = none f.own (h.0 ∷ h.1) h.2 in let here : p.whole state f.own ≡ Some f.request = is.0.whole in absurd cc
+      ]
 
   -- nothing is no request
   pub none_whole : IsFilled p → (state : State) → NoneWhole state []
@@ -122,22 +126,25 @@ module _ {State Request Call Answer : Type 0} (p : Protocol State Request Call A
 
   shorter : (own behind : List ℕ) (b : ℕ) (bs text : List ℕ) → text ≡ own ++ behind → own ≡ b ∷ bs → length behind < length text
   shorter own behind b bs text e i =
-    let sized : length text ≡ length own + length behind = ap length e ∙ length-append own behind in
-    let one : length own ≡ suc (length bs) = ap length i in
-    omega (arith, sized, one)
+      let sized : length text ≡ length own + length behind = ap length e ∙ length-append own behind in
+      let one : length own ≡ suc (length bs) = ap length i in
+      omega (arith, sized, one)
 
   cut_found : IsFilled p → (state : State) (text : List ℕ) → ((s : State) (t : List ℕ) → length t < length text → HasCut s t)
       → (o : Option (Found Request)) → IsFind state text o → HasCut state text
   cut_found filled state text deeper None is = ([], text, record { last = state; spelled = refl; text_is = refl; less = rest_of filled state text is })
   cut_found filled state text deeper (Some f) is =
-    let b = some_byte filled state f.own f.request is.0 in
-    let more = deeper (p.next state f.request) f.behind (shorter f.own f.behind b.0 b.1 text is.1 b.2) in
-    ((f.own, f.request) ∷ more.0, more.1, record {
-      last = more.2.last;
-      spelled = (is.0, more.2.spelled);
-      text_is = is.1 ∙ ap (λ l. f.own ++ l) more.2.text_is ∙ sym (append_assoc f.own (spelled_bytes more.0) more.1);
-      less = more.2.less;
-    })
+      let b = some_byte filled state f.own f.request is.0 in
+      let more = deeper (p.next state f.request) f.behind (shorter f.own f.behind b.0 b.1 text is.1 b.2) in (
+        (f.own, f.request) ∷ more.0,
+        more.1,
+        record {
+          last = more.2.last;
+          spelled = (is.0, more.2.spelled);
+          text_is = is.1 ∙ ap (λ l. f.own ++ l) more.2.text_is ∙ sym (append_assoc f.own (spelled_bytes more.0) more.1);
+          less = more.2.less;
+        },
+      )
 
   cut_within : IsFilled p → (n : ℕ) (state : State) (text : List ℕ) → length text ≤ n → HasCut state text
   cut_within filled zero state text le = cut_found filled state text (λ s t lt. absurd (omega (arith, lt, le))) (first_request p state [] text) (find_is state text)
@@ -146,22 +153,22 @@ module _ {State Request Call Answer : Type 0} (p : Protocol State Request Call A
   one_cut_from : (state : State) (text : List ℕ) (xs ys : List (Spelling Request)) (rest other : List ℕ) → IsCut p state text xs rest → IsCut p state text ys other → (ys ≡ xs) × (other ≡ rest)
   one_cut_from state text [] [] rest other a b = (refl, sym b.text_is ∙ a.text_is)
   one_cut_from state text ((own, q) ∷ xs) [] rest other a b =
-    let less : IsRest p state other = subst (λ s. IsRest p s other) b.spelled b.less in
-    absurd (no_front state other own (spelled_bytes xs ++ rest) q less a.spelled.0 (sym b.text_is ∙ a.text_is ∙ append_assoc own (spelled_bytes xs) rest))
+      let less : IsRest p state other = subst (λ s. IsRest p s other) b.spelled b.less in
+      absurd (no_front state other own (spelled_bytes xs ++ rest) q less a.spelled.0 (sym b.text_is ∙ a.text_is ∙ append_assoc own (spelled_bytes xs) rest))
   one_cut_from state text [] ((own, q) ∷ ys) rest other a b =
-    let less : IsRest p state rest = subst (λ s. IsRest p s rest) a.spelled a.less in
-    absurd (no_front state rest own (spelled_bytes ys ++ other) q less b.spelled.0 (sym a.text_is ∙ b.text_is ∙ append_assoc own (spelled_bytes ys) other))
+      let less : IsRest p state rest = subst (λ s. IsRest p s rest) a.spelled a.less in
+      absurd (no_front state rest own (spelled_bytes ys ++ other) q less b.spelled.0 (sym a.text_is ∙ b.text_is ∙ append_assoc own (spelled_bytes ys) other))
   one_cut_from state text ((own, q) ∷ xs) ((also, r) ∷ ys) rest other a b =
-    let split : own ++ (spelled_bytes xs ++ rest) ≡ also ++ (spelled_bytes ys ++ other) =
-        sym (append_assoc own (spelled_bytes xs) rest) ∙ sym a.text_is ∙ b.text_is ∙ append_assoc also (spelled_bytes ys) other in
-    let same = same_front state own also (spelled_bytes xs ++ rest) (spelled_bytes ys ++ other) q r a.spelled.0 b.spelled.0 split in
-    let from : IsCut p (p.next state q) (spelled_bytes xs ++ rest) xs rest = record { last = a.last; spelled = a.spelled.1; text_is = refl; less = a.less } in
-    let also_from : IsCut p (p.next state q) (spelled_bytes xs ++ rest) ys other = record { last = b.last; spelled = subst (λ x. Spellings p (p.next state x) ys b.last) same.1 b.spelled.1; text_is = sym same.2; less = b.less } in
-    let more = one_cut_from (p.next state q) (spelled_bytes xs ++ rest) xs ys rest other from also_from in
-    (pair_cons own also q r xs ys same.0 same.1 more.0, more.1)
+      let split : own ++ (spelled_bytes xs ++ rest) ≡ also ++ (spelled_bytes ys ++ other) =
+      sym (append_assoc own (spelled_bytes xs) rest) ∙ sym a.text_is ∙ b.text_is ∙ append_assoc also (spelled_bytes ys) other in
+      let same = same_front state own also (spelled_bytes xs ++ rest) (spelled_bytes ys ++ other) q r a.spelled.0 b.spelled.0 split in
+      let from : IsCut p (p.next state q) (spelled_bytes xs ++ rest) xs rest = record { last = a.last; spelled = a.spelled.1; text_is = refl; less = a.less } in
+      let also_from : IsCut p (p.next state q) (spelled_bytes xs ++ rest) ys other = record { last = b.last; spelled = subst (λ x. Spellings p (p.next state x) ys b.last) same.1 b.spelled.1; text_is = sym same.2; less = b.less } in
+      let more = one_cut_from (p.next state q) (spelled_bytes xs ++ rest) xs ys rest other from also_from in
+      (pair_cons own also q r xs ys same.0 same.1 more.0, more.1)
     where
-    pair_cons : (a b : List ℕ) (q r : Request) (xs ys : List (Spelling Request)) → b ≡ a → r ≡ q → ys ≡ xs → ((b, r) ∷ ys) ≡ ((a, q) ∷ xs)
-    pair_cons a b q r xs ys i j k = cc
+      pair_cons : (a b : List ℕ) (q r : Request) (xs ys : List (Spelling Request)) → b ≡ a → r ≡ q → ys ≡ xs → ((b, r) ∷ ys) ≡ ((a, q) ∷ xs)
+      pair_cons a b q r xs ys i j k = cc
 
   pub one_cut : IsFilled p → (state : State) (text : List ℕ) → HasOneCut p state text
   one_cut filled state text = record { cut = cut_within filled (length text) state text (omega arith); only = one_cut_from state text }

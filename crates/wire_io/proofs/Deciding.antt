@@ -41,11 +41,13 @@ module _ {State Request Call Answer : Type 0} (p : Protocol State Request Call A
   -- the one is the case or the other, not both
   pub never_both : (state : State) (at : ℕ) (bytes : List ℕ) (end : SessionEnd) (Ended : Request → Type 0) → IsLeft state at bytes end → IsAhead state at bytes Ended → ⊥
   never_both state at bytes end Ended left ahead = elim left.all [
-    inl none ↦ no_front p state left.seen ahead.own ahead.behind ahead.request left.less ahead.spelled
+    | inl none ↦ no_front p state left.seen ahead.own ahead.behind ahead.request left.less ahead.spelled
         (sym (append-nil left.seen) ∙ ap (λ l. left.seen ++ l) (sym none) ∙ sym left.parts ∙ ahead.parts)
     | inr full ↦ elim (fronts ahead.own left.seen ahead.behind left.unseen (sym ahead.parts ∙ left.parts)) [
-      inl h ↦ no_front p state left.seen ahead.own h.0 ahead.request left.less ahead.spelled h.1
-      | inr h ↦ let sized : length ahead.own ≡ length left.seen + length (h.0 ∷ h.1) = ap length h.2 ∙ length-append left.seen (h.0 ∷ h.1) in absurd (omega (arith, sized, full, ahead.within)) ] ]
+      | inl h ↦ no_front p state left.seen ahead.own h.0 ahead.request left.less ahead.spelled h.1
+      | inr h ↦ let sized : length ahead.own ≡ length left.seen + length (h.0 ∷ h.1) = ap length h.2 ∙ length-append left.seen (h.0 ∷ h.1) in absurd (omega (arith, sized, full, ahead.within))
+    ]
+  ]
 
   pub end_none : (at : ℕ) → at < limit → end_of_rest limit at [] ≡ Closed
   end_none at lt = let no : leb limit at ≡ false = grind (arith, nat_tests) in rw no refl
@@ -69,32 +71,32 @@ module _ {State Request Call Answer : Type 0} (p : Protocol State Request Call A
   finished : (state : State) (at : ℕ) (rest left : List ℕ) (log : List (Call × Answer)) (text : List ℕ) (after : After) (end : SessionEnd) → Finishes p state rest log text after → end_after after ≡ Some end
       → at + length rest ≤ limit → IsAhead state at (rest ++ left) (λ request. Ended end request state)
   finished state at rest left log text after end f e fits =
-    let sized : length rest ≡ length f.x.bytes + length f.unread = ap length f.rest_is ∙ length-append f.x.bytes f.unread in
-    record {
-      own = f.x.bytes;
-      request = f.x.request;
-      behind = f.unread ++ left;
-      spelled = f.exchange.spelled;
-      parts = ap (λ l. l ++ left) f.rest_is ∙ append_assoc f.x.bytes f.unread left;
-      within = omega (arith, sized, fits);
-      ended = (f.x.log, f.exchange.answer, after, f.exchange.worked, e);
-    }
+      let sized : length rest ≡ length f.x.bytes + length f.unread = ap length f.rest_is ∙ length-append f.x.bytes f.unread in
+      record {
+        own = f.x.bytes;
+        request = f.x.request;
+        behind = f.unread ++ left;
+        spelled = f.exchange.spelled;
+        parts = ap (λ l. l ++ left) f.rest_is ∙ append_assoc f.x.bytes f.unread left;
+        within = omega (arith, sized, fits);
+        ended = (f.x.log, f.exchange.answer, after, f.exchange.worked, e);
+      }
 
   -- what the session's own end says of the bytes behind the requests that it outlived
   pub ended_forms : (state : State) (at : ℕ) (rest left : List ℕ) (log : List (Call × Answer)) (text : List ℕ) (end : SessionEnd) → Ends p limit (left ≡ []) state at rest log text end
       → at + length rest ≤ limit → IsQuiet end
       → (IsLeft state at (rest ++ left) end × Waits p state rest log text × (rest ++ left ≡ rest ⊎ (at + length rest ≡ limit))) ⊎ (IsAhead state at (rest ++ left) (λ request. Ended end request state) ⊎ (end ≡ NoMemory))
   ended_forms state at rest left log text Closed (inl h) fits quiet =
-    let none : rest ++ left ≡ [] = ap (λ l. l ++ left) h.0 ∙ h.2 in
-    inl (record { seen = rest; unseen = left; parts = refl; less = h.3.less; all = inl h.2; end_is = sym (ap (end_of_rest limit at) none ∙ end_none at h.1) }, h.3, inl (ap (λ l. rest ++ l) h.2 ∙ append-nil rest))
+      let none : rest ++ left ≡ [] = ap (λ l. l ++ left) h.0 ∙ h.2 in
+      inl (record { seen = rest; unseen = left; parts = refl; less = h.3.less; all = inl h.2; end_is = sym (ap (end_of_rest limit at) none ∙ end_none at h.1) }, h.3, inl (ap (λ l. rest ++ l) h.2 ∙ append-nil rest))
   ended_forms state at rest left log text Closed (inr f) fits quiet = inr (inl (finished state at rest left log text Closing Closed f refl fits))
   ended_forms state at rest left log text Stopped f fits quiet = inr (inl (finished state at rest left log text Stopping Stopped f refl fits))
   ended_forms state at rest left log text (Truncated offset) h fits quiet =
-    let same : rest ++ left ≡ rest = ap (λ l. rest ++ l) h.2 ∙ append-nil rest in
-    inl (record { seen = rest; unseen = left; parts = refl; less = h.4.less; all = inl h.2; end_is = ap Truncated h.3 ∙ sym (ap (end_of_rest limit at) same ∙ end_short at rest h.0 h.1) }, h.4, inl same)
+      let same : rest ++ left ≡ rest = ap (λ l. rest ++ l) h.2 ∙ append-nil rest in
+      inl (record { seen = rest; unseen = left; parts = refl; less = h.4.less; all = inl h.2; end_is = ap Truncated h.3 ∙ sym (ap (end_of_rest limit at) same ∙ end_short at rest h.0 h.1) }, h.4, inl same)
   ended_forms state at rest left log text InputLimit h fits quiet =
-    let sized : length (rest ++ left) ≡ length rest + length left = length-append rest left in
-    inl (record { seen = rest; unseen = left; parts = refl; less = h.1.less; all = inr h.0; end_is = sym (end_full at (rest ++ left) (omega (arith, sized, h.0))) }, h.1, inr h.0)
+      let sized : length (rest ++ left) ≡ length rest + length left = length-append rest left in
+      inl (record { seen = rest; unseen = left; parts = refl; less = h.1.less; all = inr h.0; end_is = sym (end_full at (rest ++ left) (omega (arith, sized, h.0))) }, h.1, inr h.0)
   ended_forms state at rest left log text ReadFault h fits quiet = absurd (quiet.0 refl)
   ended_forms state at rest left log text WriteFault h fits quiet = absurd (quiet.1 refl)
   ended_forms state at rest left log text NoMemory h fits quiet = inr (inr refl)
@@ -111,8 +113,8 @@ module _ {State Request Call Answer : Type 0} (p : Protocol State Request Call A
   due_forms state at bytes Stopped h empty = inr (finished_always state at bytes Stopping Stopped h refl)
   due_forms state at bytes (Truncated offset) h empty = inl (record { seen = bytes; unseen = []; parts = sym (append-nil bytes); less = h.3; all = inl refl; end_is = ap Truncated h.2 ∙ sym (end_short at bytes h.0 h.1) })
   due_forms state at bytes InputLimit h empty =
-    let sized : length bytes ≡ length h.0 + length h.1 = ap length h.2 ∙ length-append h.0 h.1 in
-    inl (record { seen = h.0; unseen = h.1; parts = h.2; less = h.4; all = inr h.3; end_is = sym (end_full at bytes (omega (arith, sized, h.3))) })
+      let sized : length bytes ≡ length h.0 + length h.1 = ap length h.2 ∙ length-append h.0 h.1 in
+      inl (record { seen = h.0; unseen = h.1; parts = h.2; less = h.4; all = inr h.3; end_is = sym (end_full at bytes (omega (arith, sized, h.3))) })
   due_forms state at bytes ReadFault h empty = absurd h
   due_forms state at bytes WriteFault h empty = absurd h
   due_forms state at bytes NoMemory h empty = absurd h
@@ -139,10 +141,10 @@ module _ {State Request Call Answer : Type 0} (p : Protocol State Request Call A
   both_ends state at bytes end due (inl a) (inr b) = absurd (never_both state at bytes end (λ request. EndsAlways due request state) a b)
   both_ends state at bytes end due (inr a) (inl b) = absurd (never_both state at bytes due (λ request. Ended end request state) b a)
   both_ends state at bytes end due (inr a) (inr b) =
-    let same = same_front p state a.own b.own a.behind b.behind a.request b.request a.spelled b.spelled (sym a.parts ∙ b.parts) in
-    let e = a.ended in
-    let always : AlwaysEnds (p.work state a.request) b.ended.0 = subst (λ r. AlwaysEnds (p.work state r) b.ended.0) same.1 b.ended.1 in
-    one_end e.2 b.ended.0 end due (always e.0 e.1 e.2 e.3) e.4 b.ended.2
+      let same = same_front p state a.own b.own a.behind b.behind a.request b.request a.spelled b.spelled (sym a.parts ∙ b.parts) in
+      let e = a.ended in
+      let always : AlwaysEnds (p.work state a.request) b.ended.0 = subst (λ r. AlwaysEnds (p.work state r) b.ended.0) same.1 b.ended.1 in
+      one_end e.2 b.ended.0 end due (always e.0 e.1 e.2 e.3) e.4 b.ended.2
 
   -- behind a request that both sides outlive
   behind_own : (at place : ℕ) (own rest : List ℕ) → place ≡ at + length (own ++ rest) → place ≡ (at + length own) + length rest
@@ -150,16 +152,16 @@ module _ {State Request Call Answer : Type 0} (p : Protocol State Request Call A
 
   fits_behind : (at : ℕ) (own ex rest : List ℕ) → at + length ((own ++ ex) ++ rest) ≤ limit → (at + length own) + length (ex ++ rest) ≤ limit
   fits_behind at own ex rest le =
-    let a : length ((own ++ ex) ++ rest) ≡ length (own ++ ex) + length rest = length-append (own ++ ex) rest in
-    let b : length (own ++ ex) ≡ length own + length ex = length-append own ex in
-    let c : length (ex ++ rest) ≡ length ex + length rest = length-append ex rest in
-    omega (arith, le, a, b, c)
+      let a : length ((own ++ ex) ++ rest) ≡ length (own ++ ex) + length rest = length-append (own ++ ex) rest in
+      let b : length (own ++ ex) ≡ length own + length ex = length-append own ex in
+      let c : length (ex ++ rest) ≡ length ex + length rest = length-append ex rest in
+      omega (arith, le, a, b, c)
 
   fits_own : (at : ℕ) (own ex rest : List ℕ) → at + length ((own ++ ex) ++ rest) ≤ limit → at + length own ≤ limit
   fits_own at own ex rest le =
-    let a : length ((own ++ ex) ++ rest) ≡ length (own ++ ex) + length rest = length-append (own ++ ex) rest in
-    let b : length (own ++ ex) ≡ length own + length ex = length-append own ex in
-    omega (arith, le, a, b)
+      let a : length ((own ++ ex) ++ rest) ≡ length (own ++ ex) + length rest = length-append (own ++ ex) rest in
+      let b : length (own ++ ex) ≡ length own + length ex = length-append own ex in
+      omega (arith, le, a, b)
 
   abbrev InputForm : State → ℕ → List ℕ → SessionEnd → Type 0
   InputForm state at bytes due = IsLeft state at bytes due ⊎ IsAhead state at bytes (λ request. EndsAlways due request state)
@@ -172,34 +174,34 @@ module _ {State Request Call Answer : Type 0} (p : Protocol State Request Call A
       → IsAhead state at bytes (λ request. (log : List (Call × Answer)) × (text : List ℕ) × Does (p.work state request) log text Open) → ⊥
   not_due state at bytes due (inl a) x = never_both state at bytes due _ a x
   not_due state at bytes due (inr a) x =
-    let same = same_front p state a.own x.own a.behind x.behind a.request x.request a.spelled x.spelled (sym a.parts ∙ x.parts) in
-    let did = x.ended in
-    let moved : Does (p.work state a.request) did.0 did.1 Open = subst (λ r. Does (p.work state r) did.0 did.1 Open) same.1 did.2 in
-    let always = a.ended.1 did.0 did.1 Open moved in
-    let none : end_after Open ≡ end_after a.ended.0 = ap end_after always in
-    let some : end_after a.ended.0 ≡ Some due = a.ended.2 in
-    absurd cc
+      let same = same_front p state a.own x.own a.behind x.behind a.request x.request a.spelled x.spelled (sym a.parts ∙ x.parts) in
+      let did = x.ended in
+      let moved : Does (p.work state a.request) did.0 did.1 Open = subst (λ r. Does (p.work state r) did.0 did.1 Open) same.1 did.2 in
+      let always = a.ended.1 did.0 did.1 Open moved in
+      let none : end_after Open ≡ end_after a.ended.0 = ap end_after always in
+      let some : end_after a.ended.0 ≡ Some due = a.ended.2 in
+      absurd cc
 
   not_ended : (state : State) (at : ℕ) (bytes : List ℕ) (end : SessionEnd) → OwnForm state at bytes end → IsAhead state at bytes (λ request. AlwaysEnds (p.work state request) Open) → ⊥
   not_ended state at bytes end (inl a) y = never_both state at bytes end _ a y
   not_ended state at bytes end (inr a) y =
-    let same = same_front p state a.own y.own a.behind y.behind a.request y.request a.spelled y.spelled (sym a.parts ∙ y.parts) in
-    let e = a.ended in
-    let always : AlwaysEnds (p.work state a.request) Open = subst (λ r. AlwaysEnds (p.work state r) Open) same.1 y.ended in
-    let none : end_after e.2 ≡ end_after Open = ap end_after (always e.0 e.1 e.2 e.3) in
-    let some : end_after e.2 ≡ Some end = e.4 in
-    absurd cc
+      let same = same_front p state a.own y.own a.behind y.behind a.request y.request a.spelled y.spelled (sym a.parts ∙ y.parts) in
+      let e = a.ended in
+      let always : AlwaysEnds (p.work state a.request) Open = subst (λ r. AlwaysEnds (p.work state r) Open) same.1 y.ended in
+      let none : end_after e.2 ≡ end_after Open = ap end_after (always e.0 e.1 e.2 e.3) in
+      let some : end_after e.2 ≡ Some end = e.4 in
+      absurd cc
 
   -- the session's own end, by its forms
   own_forms : (state : State) (at : ℕ) (rest left : List ℕ) (log : List (Call × Answer)) (text : List ℕ) (end : SessionEnd) → Ends p limit (left ≡ []) state at rest log text end
       → at + length rest ≤ limit → IsQuiet end → OwnForm state at (rest ++ left) end ⊎ (end ≡ NoMemory)
   own_forms state at rest left log text end ends fits quiet = by_form (ended_forms state at rest left log text end ends fits quiet)
     where
-    by_form : (IsLeft state at (rest ++ left) end × Waits p state rest log text × (rest ++ left ≡ rest ⊎ (at + length rest ≡ limit))) ⊎ (IsAhead state at (rest ++ left) (λ request. Ended end request state) ⊎ (end ≡ NoMemory))
-        → OwnForm state at (rest ++ left) end ⊎ (end ≡ NoMemory)
-    by_form (inl a) = inl (inl a.0)
-    by_form (inr (inl a)) = inl (inr a)
-    by_form (inr (inr none)) = inr none
+      by_form : (IsLeft state at (rest ++ left) end × Waits p state rest log text × (rest ++ left ≡ rest ⊎ (at + length rest ≡ limit))) ⊎ (IsAhead state at (rest ++ left) (λ request. Ended end request state) ⊎ (end ≡ NoMemory))
+          → OwnForm state at (rest ++ left) end ⊎ (end ≡ NoMemory)
+      by_form (inl a) = inl (inl a.0)
+      by_form (inr (inl a)) = inl (inr a)
+      by_form (inr (inr none)) = inr none
 
   -- from a place on, the session and the input end alike
   pub ends_alike : IsFilled p → (state last final : State) (at place due_place : ℕ) (ex : List (Exchange Request Call Answer)) (xs : List (Spelling Request)) (rest left bytes : List ℕ)
@@ -208,55 +210,56 @@ module _ {State Request Call Answer : Type 0} (p : Protocol State Request Call A
       → Outlives p state xs final → RestEnds p limit final due_place bytes due → due_place ≡ at + length (spelled_bytes xs)
       → (bytes_of ex ++ rest) ++ left ≡ spelled_bytes xs ++ bytes → IsQuiet end → (end ≡ due) ⊎ (end ≡ NoMemory)
   ends_alike filled state last final at place due_place [] [] rest left bytes log text end due outlived ends place_is fits also due_ends due_is e quiet =
-    let here : place ≡ at = omega (arith, place_is) in
-    let there : due_place ≡ at = omega (arith, due_is) in
-    let own_ends : Ends p limit (left ≡ []) state at rest log text end = subst (λ n. Ends p limit (left ≡ []) state n rest log text end) here (subst (λ s. Ends p limit (left ≡ []) s place rest log text end) outlived ends) in
-    let input_ends : RestEnds p limit state at bytes due = subst (λ n. RestEnds p limit state n bytes due) there (subst (λ s. RestEnds p limit s due_place bytes due) also due_ends) in
-    let form : InputForm state at (rest ++ left) due = subst (λ l. InputForm state at l due) (sym e) (due_forms state at bytes due input_ends (rest_of p filled state [] (none_whole p filled state))) in
-    elim (own_forms state at rest left log text end own_ends fits quiet) [ inl a ↦ inl (both_ends state at (rest ++ left) end due a form) | inr none ↦ inr none ]
+      let here : place ≡ at = omega (arith, place_is) in
+      let there : due_place ≡ at = omega (arith, due_is) in
+      let own_ends : Ends p limit (left ≡ []) state at rest log text end = subst (λ n. Ends p limit (left ≡ []) state n rest log text end) here (subst (λ s. Ends p limit (left ≡ []) s place rest log text end) outlived ends) in
+      let input_ends : RestEnds p limit state at bytes due = subst (λ n. RestEnds p limit state n bytes due) there (subst (λ s. RestEnds p limit s due_place bytes due) also due_ends) in
+      let form : InputForm state at (rest ++ left) due = subst (λ l. InputForm state at l due) (sym e) (due_forms state at bytes due input_ends (rest_of p filled state [] (none_whole p filled state))) in
+      elim (own_forms state at rest left log text end own_ends fits quiet) [ inl a ↦ inl (both_ends state at (rest ++ left) end due a form) | inr none ↦ inr none ]
   ends_alike filled state last final at place due_place (x ∷ ex) [] rest left bytes log text end due outlived ends place_is fits also due_ends due_is e quiet =
-    let there : due_place ≡ at = omega (arith, due_is) in
-    let input_ends : RestEnds p limit state at bytes due = subst (λ n. RestEnds p limit state n bytes due) there (subst (λ s. RestEnds p limit s due_place bytes due) also due_ends) in
-    let form = due_forms state at bytes due input_ends (rest_of p filled state [] (none_whole p filled state)) in
-    absurd (not_due state at bytes due form (record {
-      own = x.bytes;
-      request = x.request;
-      behind = (bytes_of ex ++ rest) ++ left;
-      spelled = outlived.0.spelled;
-      parts = sym e ∙ ap (λ l. l ++ left) (append_assoc x.bytes (bytes_of ex) rest) ∙ append_assoc x.bytes (bytes_of ex ++ rest) left;
-      within = fits_own at x.bytes (bytes_of ex) rest fits;
-      ended = (x.log, outlived.0.answer, outlived.0.worked);
-    }))
-  ends_alike filled state last final at place due_place [] (y ∷ xs) rest left bytes log text end due outlived ends place_is fits also due_ends due_is e quiet =
-    let here : place ≡ at = omega (arith, place_is) in
-    let own_ends : Ends p limit (left ≡ []) state at rest log text end = subst (λ n. Ends p limit (left ≡ []) state n rest log text end) here (subst (λ s. Ends p limit (left ≡ []) s place rest log text end) outlived ends) in
-    let most = due_within final due_place bytes due due_ends in
-    let sized : length (y.0 ++ spelled_bytes xs) ≡ length y.0 + length (spelled_bytes xs) = length-append y.0 (spelled_bytes xs) in
-    elim (own_forms state at rest left log text end own_ends fits quiet) [
-      inl a ↦ absurd (not_ended state at (rest ++ left) end a (record {
-        own = y.0;
-        request = y.1;
-        behind = spelled_bytes xs ++ bytes;
-        spelled = also.0;
-        parts = e ∙ append_assoc y.0 (spelled_bytes xs) bytes;
-        within = omega (arith, most, due_is, sized);
-        ended = also.1;
+      let there : due_place ≡ at = omega (arith, due_is) in
+      let input_ends : RestEnds p limit state at bytes due = subst (λ n. RestEnds p limit state n bytes due) there (subst (λ s. RestEnds p limit s due_place bytes due) also due_ends) in
+      let form = due_forms state at bytes due input_ends (rest_of p filled state [] (none_whole p filled state)) in
+      absurd (not_due state at bytes due form (record {
+        own = x.bytes;
+        request = x.request;
+        behind = (bytes_of ex ++ rest) ++ left;
+        spelled = outlived.0.spelled;
+        parts = sym e ∙ ap (λ l. l ++ left) (append_assoc x.bytes (bytes_of ex) rest) ∙ append_assoc x.bytes (bytes_of ex ++ rest) left;
+        within = fits_own at x.bytes (bytes_of ex) rest fits;
+        ended = (x.log, outlived.0.answer, outlived.0.worked);
       }))
-      | inr none ↦ inr none ]
+  ends_alike filled state last final at place due_place [] (y ∷ xs) rest left bytes log text end due outlived ends place_is fits also due_ends due_is e quiet =
+      let here : place ≡ at = omega (arith, place_is) in
+      let own_ends : Ends p limit (left ≡ []) state at rest log text end = subst (λ n. Ends p limit (left ≡ []) state n rest log text end) here (subst (λ s. Ends p limit (left ≡ []) s place rest log text end) outlived ends) in
+      let most = due_within final due_place bytes due due_ends in
+      let sized : length (y.0 ++ spelled_bytes xs) ≡ length y.0 + length (spelled_bytes xs) = length-append y.0 (spelled_bytes xs) in
+      elim (own_forms state at rest left log text end own_ends fits quiet) [
+        | inl a ↦ absurd (not_ended state at (rest ++ left) end a (record {
+          own = y.0;
+          request = y.1;
+          behind = spelled_bytes xs ++ bytes;
+          spelled = also.0;
+          parts = e ∙ append_assoc y.0 (spelled_bytes xs) bytes;
+          within = omega (arith, most, due_is, sized);
+          ended = also.1;
+        }))
+        | inr none ↦ inr none
+      ]
   ends_alike filled state last final at place due_place (x ∷ ex) (y ∷ xs) rest left bytes log text end due outlived ends place_is fits also due_ends due_is e quiet =
-    let split : x.bytes ++ ((bytes_of ex ++ rest) ++ left) ≡ y.0 ++ (spelled_bytes xs ++ bytes) =
-        sym (ap (λ l. l ++ left) (append_assoc x.bytes (bytes_of ex) rest) ∙ append_assoc x.bytes (bytes_of ex ++ rest) left) ∙ e ∙ append_assoc y.0 (spelled_bytes xs) bytes in
-    let same = same_front p state x.bytes y.0 ((bytes_of ex ++ rest) ++ left) (spelled_bytes xs ++ bytes) x.request y.1 outlived.0.spelled also.0 split in
-    let moved : Outlives p (p.next state x.request) xs final = subst (λ r. Outlives p (p.next state r) xs final) same.1 also.2 in
-    let due_there : due_place ≡ at + length (x.bytes ++ spelled_bytes xs) = due_is ∙ ap (λ l. at + length (l ++ spelled_bytes xs)) same.0 in
-    ends_alike filled (p.next state x.request) last final (at + length x.bytes) place due_place ex xs rest left bytes log text end due outlived.1 ends
-        (behind_own at place x.bytes (bytes_of ex) place_is) (fits_behind at x.bytes (bytes_of ex) rest fits) moved due_ends (behind_own at due_place x.bytes (spelled_bytes xs) due_there) (sym same.2) quiet
+      let split : x.bytes ++ ((bytes_of ex ++ rest) ++ left) ≡ y.0 ++ (spelled_bytes xs ++ bytes) =
+      sym (ap (λ l. l ++ left) (append_assoc x.bytes (bytes_of ex) rest) ∙ append_assoc x.bytes (bytes_of ex ++ rest) left) ∙ e ∙ append_assoc y.0 (spelled_bytes xs) bytes in
+      let same = same_front p state x.bytes y.0 ((bytes_of ex ++ rest) ++ left) (spelled_bytes xs ++ bytes) x.request y.1 outlived.0.spelled also.0 split in
+      let moved : Outlives p (p.next state x.request) xs final = subst (λ r. Outlives p (p.next state r) xs final) same.1 also.2 in
+      let due_there : due_place ≡ at + length (x.bytes ++ spelled_bytes xs) = due_is ∙ ap (λ l. at + length (l ++ spelled_bytes xs)) same.0 in
+      ends_alike filled (p.next state x.request) last final (at + length x.bytes) place due_place ex xs rest left bytes log text end due outlived.1 ends
+      (behind_own at place x.bytes (bytes_of ex) place_is) (fits_behind at x.bytes (bytes_of ex) rest fits) moved due_ends (behind_own at due_place x.bytes (spelled_bytes xs) due_there) (sym same.2) quiet
 
   -- the whole session and the whole input end alike
   pub end_decided : IsFilled p → (input taken left : List ℕ) (log : List (Call × Answer)) (written : List ℕ) (end due : SessionEnd) → input ≡ taken ++ left
       → Session p limit (left ≡ []) taken log written end → InputEnds p limit input due → IsQuiet end → (end ≡ due) ⊎ (end ≡ NoMemory)
   end_decided filled input taken left log written end due parts (inl s) due_is quiet =
-    ends_alike filled p.start s.state due_is.state 0 (length (bytes_of s.exchanges)) (length (spelled_bytes due_is.xs)) s.exchanges due_is.xs s.rest left due_is.bytes s.last_log s.last_text end due
-        s.outlived s.ends (omega arith) (subst (λ l. 0 + length l ≤ limit) s.taken_is (omega (arith, s.within))) due_is.outlived due_is.ends (omega arith)
-        (ap (λ l. l ++ left) (sym s.taken_is) ∙ sym parts ∙ due_is.input_is) quiet
+      ends_alike filled p.start s.state due_is.state 0 (length (bytes_of s.exchanges)) (length (spelled_bytes due_is.xs)) s.exchanges due_is.xs s.rest left due_is.bytes s.last_log s.last_text end due
+      s.outlived s.ends (omega arith) (subst (λ l. 0 + length l ≤ limit) s.taken_is (omega (arith, s.within))) due_is.outlived due_is.ends (omega arith)
+      (ap (λ l. l ++ left) (sym s.taken_is) ∙ sym parts ∙ due_is.input_is) quiet
   end_decided filled input taken left log written end due parts (inr s) due_is quiet = absurd (quiet.1 s.0)

@@ -21,12 +21,13 @@ pub front_of_push : {A : Type 0} (come : List A) (b : A) (front : List A) (x : A
     → (come ≡ front) ⊎ ((y : A) × (m : List A) × (come ≡ front ++ y ∷ m))
 front_of_push {A} come b front x more e = elim (fronts front come (x ∷ more) (b ∷ []) (sym e)) [ inl h ↦ within h.0 h.1 | inr h ↦ beyond h.0 h.1 h.2 ]
   where
-  within : (m : List A) → come ≡ front ++ m → (come ≡ front) ⊎ ((y : A) × (m : List A) × (come ≡ front ++ y ∷ m))
-  within [] i = inl (i ∙ append-nil front)
-  within (y ∷ m) i = inr (y, m, i)
-  beyond : (z : A) (m : List A) → front ≡ come ++ z ∷ m → (come ≡ front) ⊎ ((y : A) × (m : List A) × (come ≡ front ++ y ∷ m))
-  beyond z m i =
-    let whole : come ++ b ∷ [] ≡ come ++ (z ∷ m ++ x ∷ more) = e ∙ ap (λ l. l ++ x ∷ more) i ∙ append_assoc come (z ∷ m) (x ∷ more) in
-    let tails = append_cancel_left come (b ∷ []) (z ∷ m ++ x ∷ more) whole in
-    let rest : [] ≡ m ++ x ∷ more = cc in
-    absurd (no_nil m x more rest)
+    within : (m : List A) → come ≡ front ++ m → (come ≡ front) ⊎ ((y : A) × (m : List A) × (come ≡ front ++ y ∷ m))
+    within [] i = inl (i ∙ append-nil front)
+    within (y ∷ m) i = inr (y, m, i)
+
+    beyond : (z : A) (m : List A) → front ≡ come ++ z ∷ m → (come ≡ front) ⊎ ((y : A) × (m : List A) × (come ≡ front ++ y ∷ m))
+    beyond z m i =
+        let whole : come ++ b ∷ [] ≡ come ++ (z ∷ m ++ x ∷ more) = e ∙ ap (λ l. l ++ x ∷ more) i ∙ append_assoc come (z ∷ m) (x ∷ more) in
+        let tails = append_cancel_left come (b ∷ []) (z ∷ m ++ x ∷ more) whole in
+        let rest : [] ≡ m ++ x ∷ more = cc in
+        absurd (no_nil m x more rest)

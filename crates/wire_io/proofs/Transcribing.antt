@@ -18,24 +18,24 @@ take_over : (n : ℕ) (a b : List ℕ) → length a ≤ n → take n (a ++ b) �
 take_over n [] b le = let same : n ≡ n - 0 = omega arith in ap (λ k. take k b) same
 take_over zero (x ∷ a) b le = absurd (omega (arith, le))
 take_over (suc n) (x ∷ a) b le =
-  let fewer : n - length a ≡ suc n - suc (length a) = omega arith in
-  ap (λ l. x ∷ l) (take_over n a b (omega (arith, le)) ∙ ap (λ k. a ++ take k b) fewer)
+    let fewer : n - length a ≡ suc n - suc (length a) = omega arith in
+    ap (λ l. x ∷ l) (take_over n a b (omega (arith, le)) ∙ ap (λ k. a ++ take k b) fewer)
 
 module _ {World Call Answer : Type 0} (by : Answers World Call Answer) where
   pub perform_is : (work : Work Call Answer) (world last : World) (log : List (Call × Answer)) (text : List ℕ) (after : After) → Does work log text after → IsAnswered by world log last
       → perform by world work ≡ record { text = text; after = after; world = last }
   perform_is (say t a) world last [] text after did answered = done_is t text a after world last did.0 did.1 answered
     where
-    done_is : (t text : List ℕ) (a after : After) (world last : World) → text ≡ t → after ≡ a → last ≡ world → ◌≡◌ {A = Done World} (record { text = t; after = a; world = world }) (record { text = text; after = after; world = last })
-    done_is t text a after world last i j k = cc
+      done_is : (t text : List ℕ) (a after : After) (world last : World) → text ≡ t → after ≡ a → last ≡ world → ◌≡◌ {A = Done World} (record { text = t; after = a; world = world }) (record { text = text; after = after; world = last })
+      done_is t text a after world last i j k = cc
   perform_is (say t a) world last (entry ∷ log) text after did answered = absurd did
   perform_is (ask call next) world last [] text after did answered = absurd did
   perform_is (ask call next) world last (entry ∷ log) text after did answered =
-    let called : entry.0 ≡ call = did.0 in
-    let told : entry.1 ≡ by.answer world call = answered.0 ∙ ap (λ c. by.answer world c) called in
-    let rest : IsAnswered by (by.after world call) log last = subst (λ c. IsAnswered by (by.after world c) log last) called answered.1 in
-    let done : Does (next (by.answer world call)) log text after = subst (λ a. Does (next a) log text after) told did.1 in
-    perform_is (next (by.answer world call)) (by.after world call) last log text after done rest
+      let called : entry.0 ≡ call = did.0 in
+      let told : entry.1 ≡ by.answer world call = answered.0 ∙ ap (λ c. by.answer world c) called in
+      let rest : IsAnswered by (by.after world call) log last = subst (λ c. IsAnswered by (by.after world c) log last) called answered.1 in
+      let done : Does (next (by.answer world call)) log text after = subst (λ a. Does (next a) log text after) told did.1 in
+      perform_is (next (by.answer world call)) (by.after world call) last log text after done rest
 
   pub answered_split : (world last : World) (a b : List (Call × Answer)) → IsAnswered by world (a ++ b) last → (mid : World) × IsAnswered by world a mid × IsAnswered by mid b last
   answered_split world last [] b is = (world, refl, is)
@@ -51,19 +51,19 @@ module _ {State Request Call Answer World : Type 0} (p : Protocol State Request 
       → first_request p state [] text ≡ Some (record { own = own; request = q; behind = behind })
   found_first state text own behind q spelled e = go (first_request p state [] text) (find_is p state text)
     where
-    go : (o : Option (Found Request)) → IsFind p state text o → o ≡ Some (record { own = own; request = q; behind = behind })
-    go None is = let gone : p.whole state own ≡ None = is own behind e in let here : p.whole state own ≡ Some q = spelled.whole in absurd cc
-    go (Some f) is =
-      let same = same_front p state own f.own behind f.behind q f.request spelled is.0 (sym e ∙ is.1) in
-      ap Some (found_record own f.own behind f.behind q f.request same.0 same.1 same.2)
+      go : (o : Option (Found Request)) → IsFind p state text o → o ≡ Some (record { own = own; request = q; behind = behind })
+      go None is = let gone : p.whole state own ≡ None = is own behind e in let here : p.whole state own ≡ Some q = spelled.whole in absurd cc
+      go (Some f) is =
+          let same = same_front p state own f.own behind f.behind q f.request spelled is.0 (sym e ∙ is.1) in
+          ap Some (found_record own f.own behind f.behind q f.request same.0 same.1 same.2)
 
   -- in less than a request none is found
   none_first : (state : State) (rest : List ℕ) → IsRest p state rest → first_request p state [] rest ≡ None
   none_first state rest less = go (first_request p state [] rest) (find_is p state rest)
     where
-    go : (o : Option (Found Request)) → IsFind p state rest o → o ≡ None
-    go None is = refl
-    go (Some f) is = absurd (no_front p state rest f.own f.behind f.request less is.0 is.1)
+      go : (o : Option (Found Request)) → IsFind p state rest o → o ≡ None
+      go None is = refl
+      go (Some f) is = absurd (no_front p state rest f.own f.behind f.request less is.0 is.1)
 
   abbrev after_request : (most : ℕ) → State → (at : ℕ) → List ℕ → List ℕ → Request → Done World → Transcript
   after_request most state at own behind q done =
@@ -90,17 +90,17 @@ module _ {State Request Call Answer World : Type 0} (p : Protocol State Request 
       → ((answer : List ℕ) (more : Transcript) → going_on after answer more ≡ record { text = answer; end = end })
       → transcript_from p by limit (suc most) state world at text ≡ record { text = written; end = end }
   finishes_there most state world last at text rest left log written after end f e answered stops =
-    let x = f.x in
-    let parts : text ≡ x.bytes ++ (f.unread ++ left) = e ∙ ap (λ l. l ++ left) f.rest_is ∙ append_assoc x.bytes f.unread left in
-    let own : IsAnswered by world x.log last = subst (λ l. IsAnswered by world l last) f.log_is answered in
-    goes_by most state world last at text x.bytes (f.unread ++ left) x.request x.log f.exchange.answer after f.exchange.spelled parts f.exchange.worked own
-    ∙ stops (p.prompts state x.bytes ++ f.exchange.answer) _
-    ∙ transcript_eq (p.prompts state x.bytes ++ f.exchange.answer) written end end (sym (f.text_is ∙ f.exchange.written)) refl
+      let x = f.x in
+      let parts : text ≡ x.bytes ++ (f.unread ++ left) = e ∙ ap (λ l. l ++ left) f.rest_is ∙ append_assoc x.bytes f.unread left in
+      let own : IsAnswered by world x.log last = subst (λ l. IsAnswered by world l last) f.log_is answered in
+      goes_by most state world last at text x.bytes (f.unread ++ left) x.request x.log f.exchange.answer after f.exchange.spelled parts f.exchange.worked own
+      ∙ stops (p.prompts state x.bytes ++ f.exchange.answer) _
+      ∙ transcript_eq (p.prompts state x.bytes ++ f.exchange.answer) written end end (sym (f.text_is ∙ f.exchange.written)) refl
 
   waits_with : (most : ℕ) (state : State) (world : World) (at : ℕ) (text rest : List ℕ) (log : List (Call × Answer)) (written : List ℕ) (end : SessionEnd)
       → Waits p state rest log written → text ≡ rest → end_of_rest limit at rest ≡ end → transcript_from p by limit (suc most) state world at text ≡ record { text = written; end = end }
   waits_with most state world at text rest log written end waits e ended =
-    ap (transcript_from p by limit (suc most) state world at) e ∙ waits_there most state world at rest waits.less ∙ transcript_eq (p.prompts state rest) written (end_of_rest limit at rest) end (sym waits.prompted) ended
+      ap (transcript_from p by limit (suc most) state world at) e ∙ waits_there most state world at rest waits.less ∙ transcript_eq (p.prompts state rest) written (end_of_rest limit at rest) end (sym waits.prompted) ended
 
   -- the end of the session is the end of the transcript
   ends_there : (most : ℕ) (state : State) (world last : World) (at : ℕ) (rest left : List ℕ) (log : List (Call × Answer)) (written : List ℕ) (end : SessionEnd)
@@ -132,22 +132,22 @@ module _ {State Request Call Answer World : Type 0} (p : Protocol State Request 
       → transcript_from p by limit most state world at (bytes_of ex ++ (rest ++ left)) ≡ record { text = text_of ex ++ written; end = end }
   transcribed filled zero state final world last at place ex rest left log written end outlived ends place_is fits lt answered quiet some = absurd (omega (arith, lt))
   transcribed filled (suc most) state final world last at place [] rest left log written end outlived ends place_is fits lt answered quiet some =
-    let here : place ≡ at = omega (arith, place_is) in
-    let own : Ends p limit (left ≡ []) state at rest log written end = subst (λ n. Ends p limit (left ≡ []) state n rest log written end) here (subst (λ s. Ends p limit (left ≡ []) s place rest log written end) outlived ends) in
-    ends_there most state world last at rest left log written end own fits answered quiet some
+      let here : place ≡ at = omega (arith, place_is) in
+      let own : Ends p limit (left ≡ []) state at rest log written end = subst (λ n. Ends p limit (left ≡ []) state n rest log written end) here (subst (λ s. Ends p limit (left ≡ []) s place rest log written end) outlived ends) in
+      ends_there most state world last at rest left log written end own fits answered quiet some
   transcribed filled (suc most) state final world last at place (x ∷ ex) rest left log written end outlived ends place_is fits lt answered quiet some =
-    let behind = bytes_of ex ++ (rest ++ left) in
-    let parts : (x.bytes ++ bytes_of ex) ++ (rest ++ left) ≡ x.bytes ++ behind = append_assoc x.bytes (bytes_of ex) (rest ++ left) in
-    let sized : length ((x.bytes ++ bytes_of ex) ++ (rest ++ left)) ≡ length x.bytes + length behind = ap length parts ∙ length-append x.bytes behind in
-    let byte = some_byte p filled state x.bytes x.request outlived.0.spelled in
-    let one : length x.bytes ≡ suc (length byte.1) = ap length byte.2 in
-    let split = answered_split by world last x.log (log_of ex ++ log) (subst (λ l. IsAnswered by world l last) (append_assoc x.log (log_of ex) log) answered) in
-    let more = transcribed filled most (p.next state x.request) final split.0 last (at + length x.bytes) place ex rest left log written end outlived.1 ends
-        (place_behind at place x.bytes (bytes_of ex) place_is) (omega (arith, sized, fits)) (omega (arith, sized, lt, one)) split.2 quiet some in
-    goes_by most state world split.0 at ((x.bytes ++ bytes_of ex) ++ (rest ++ left)) x.bytes behind x.request x.log outlived.0.answer Open outlived.0.spelled parts outlived.0.worked split.1
-    ∙ ap (going_on Open (p.prompts state x.bytes ++ outlived.0.answer)) more
-    ∙ transcript_eq ((p.prompts state x.bytes ++ outlived.0.answer) ++ (text_of ex ++ written)) ((x.text ++ text_of ex) ++ written) end end
-        (ap (λ l. l ++ (text_of ex ++ written)) (sym outlived.0.written) ∙ sym (append_assoc x.text (text_of ex) written)) refl
+      let behind = bytes_of ex ++ (rest ++ left) in
+      let parts : (x.bytes ++ bytes_of ex) ++ (rest ++ left) ≡ x.bytes ++ behind = append_assoc x.bytes (bytes_of ex) (rest ++ left) in
+      let sized : length ((x.bytes ++ bytes_of ex) ++ (rest ++ left)) ≡ length x.bytes + length behind = ap length parts ∙ length-append x.bytes behind in
+      let byte = some_byte p filled state x.bytes x.request outlived.0.spelled in
+      let one : length x.bytes ≡ suc (length byte.1) = ap length byte.2 in
+      let split = answered_split by world last x.log (log_of ex ++ log) (subst (λ l. IsAnswered by world l last) (append_assoc x.log (log_of ex) log) answered) in
+      let more = transcribed filled most (p.next state x.request) final split.0 last (at + length x.bytes) place ex rest left log written end outlived.1 ends
+      (place_behind at place x.bytes (bytes_of ex) place_is) (omega (arith, sized, fits)) (omega (arith, sized, lt, one)) split.2 quiet some in
+      goes_by most state world split.0 at ((x.bytes ++ bytes_of ex) ++ (rest ++ left)) x.bytes behind x.request x.log outlived.0.answer Open outlived.0.spelled parts outlived.0.worked split.1
+      ∙ ap (going_on Open (p.prompts state x.bytes ++ outlived.0.answer)) more
+      ∙ transcript_eq ((p.prompts state x.bytes ++ outlived.0.answer) ++ (text_of ex ++ written)) ((x.text ++ text_of ex) ++ written) end end
+      (ap (λ l. l ++ (text_of ex ++ written)) (sym outlived.0.written) ∙ sym (append_assoc x.text (text_of ex) written)) refl
 
   ends_weaker : (P Q : Type 0) → (P → Q) → (state : State) (at : ℕ) (rest : List ℕ) (log : List (Call × Answer)) (text : List ℕ) (end : SessionEnd) → Ends p limit P state at rest log text end → Ends p limit Q state at rest log text end
   ends_weaker P Q f state at rest log text Closed (inl h) = inl (h.0, h.1, f h.2, h.3)
@@ -164,14 +164,14 @@ module _ {State Request Call Answer World : Type 0} (p : Protocol State Request 
       → (written ≡ p.greeting ++ (transcript p by limit world input).text) × (end ≡ (transcript p by limit world input).end)
   session_decided filled input taken left log written end world last parts (inr s) answered quiet some = absurd (quiet.1 s.0)
   session_decided filled input taken left log written end world last parts (inl s) answered quiet some =
-    let few = limit - length taken in
-    let shown = take few left in
-    let seen : take limit input ≡ taken ++ shown = ap (take limit) parts ∙ take_over limit taken left s.within in
-    let text : take limit input ≡ bytes_of s.exchanges ++ (s.rest ++ shown) = seen ∙ ap (λ l. l ++ shown) s.taken_is ∙ append_assoc (bytes_of s.exchanges) s.rest shown in
-    let ends = ends_weaker (left ≡ []) (shown ≡ []) (λ none. ap (take few) none ∙ take-nil few) s.state (length (bytes_of s.exchanges)) s.rest s.last_log s.last_text end s.ends in
-    let sized : length (bytes_of s.exchanges ++ (s.rest ++ shown)) ≡ length (take limit input) = ap length (sym text) in
-    let short : length (take limit input) ≡ min limit (length input) = length-take limit input in
-    let is = transcribed filled (suc (length input)) p.start s.state world last 0 (length (bytes_of s.exchanges)) s.exchanges s.rest shown s.last_log s.last_text end s.outlived ends (omega arith)
-        (omega (arith, sized, short)) (omega (arith, sized, short)) (subst (λ l. IsAnswered by world l last) s.log_is answered) quiet some in
-    let whole : transcript p by limit world input ≡ record { text = text_of s.exchanges ++ s.last_text; end = end } = ap (transcript_from p by limit (suc (length input)) p.start world 0) text ∙ is in
-    (s.written_is ∙ ap (λ t. p.greeting ++ t) (sym (ap (λ (t : Transcript). t.text) whole)), sym (ap (λ (t : Transcript). t.end) whole))
+      let few = limit - length taken in
+      let shown = take few left in
+      let seen : take limit input ≡ taken ++ shown = ap (take limit) parts ∙ take_over limit taken left s.within in
+      let text : take limit input ≡ bytes_of s.exchanges ++ (s.rest ++ shown) = seen ∙ ap (λ l. l ++ shown) s.taken_is ∙ append_assoc (bytes_of s.exchanges) s.rest shown in
+      let ends = ends_weaker (left ≡ []) (shown ≡ []) (λ none. ap (take few) none ∙ take-nil few) s.state (length (bytes_of s.exchanges)) s.rest s.last_log s.last_text end s.ends in
+      let sized : length (bytes_of s.exchanges ++ (s.rest ++ shown)) ≡ length (take limit input) = ap length (sym text) in
+      let short : length (take limit input) ≡ min limit (length input) = length-take limit input in
+      let is = transcribed filled (suc (length input)) p.start s.state world last 0 (length (bytes_of s.exchanges)) s.exchanges s.rest shown s.last_log s.last_text end s.outlived ends (omega arith)
+      (omega (arith, sized, short)) (omega (arith, sized, short)) (subst (λ l. IsAnswered by world l last) s.log_is answered) quiet some in
+      let whole : transcript p by limit world input ≡ record { text = text_of s.exchanges ++ s.last_text; end = end } = ap (transcript_from p by limit (suc (length input)) p.start world 0) text ∙ is in
+      (s.written_is ∙ ap (λ t. p.greeting ++ t) (sym (ap (λ (t : Transcript). t.text) whole)), sym (ap (λ (t : Transcript). t.end) whole))

@@ -9,17 +9,6 @@ use thiserror::Error;
 #[error("a fault outside")]
 pub struct Failed;
 
-/// There was no memory.
-#[derive(Clone, Copy, Debug, PartialEq, Eq, Error)]
-#[error("out of memory")]
-pub struct NoMemory;
-
-impl From<AllocError> for NoMemory {
-    fn from(_: AllocError) -> Self {
-        NoMemory
-    }
-}
-
 /// The protocols that a mail host's quota service speaks.
 #[derive(Clone, Copy, Debug, PartialEq, Eq)]
 pub enum Wire {

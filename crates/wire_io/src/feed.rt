@@ -3,10 +3,11 @@ ghost use Rattle.std.specs.Io.KnownBytes.{Consumes, Keeps, IsAtEnd};
 ghost use Rattle.wire_io.specs.Causes.{HasCause, Rose};
 ghost use Rattle.wire_io.specs.Lines.{HasNoEnd, IsLine};
 
-use super::ends::{FeedEnd, LineEnd, NoMemory};
+use super::ends::{FeedEnd, LineEnd};
 use super::piece::Piece;
 use super::source::Source;
 use memchr::memchr;
+use quota_units::NoMemory;
 
 /// How many of the first bytes belong to a line that has room for so many more, and whether they end it.
 fn line_front(bytes: &[u8], room: usize) -> (usize, bool)

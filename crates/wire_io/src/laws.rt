@@ -10,8 +10,7 @@ use crate::SessionEnd;
 pub fn each_text_has_one_cut<State, Request, Call, Answer>()
     ghost p: { Protocol State Request Call Answer }
     ensures { IsFilled p → (state : State) (text : List ℕ) → HasOneCut p state text }
-{
-}
+{}
 
 /// The bytes of an input decide how a session of the protocol ends, unless something fails.
 pub fn an_input_decides_the_end<State, Request, Call, Answer>()
@@ -19,8 +18,7 @@ pub fn an_input_decides_the_end<State, Request, Call, Answer>()
     ensures { IsFilled p → (limit : ℕ) (input taken left : List ℕ) (log : List (Call × Answer)) (written : List ℕ) (end due : End)
         → input ≡ taken ++ left → Session p limit (left ≡ []) taken log written end → InputEnds p limit input due → IsQuiet end
         → (end ≡ due) ⊎ (end ≡ SessionEnd.NoMemory) }
-{
-}
+{}
 
 /// Where each call is answered by a world that only these calls change, the bytes of an input decide all that a session writes,
 /// unless something fails.
@@ -29,5 +27,4 @@ pub fn an_input_decides_the_session<State, Request, Call, Answer, World>()
     ensures { IsFilled p.0 → (limit : ℕ) (input taken left : List ℕ) (log : List (Call × Answer)) (written : List ℕ) (end : End) (world last : World)
         → input ≡ taken ++ left → Session p.0 limit (left ≡ []) taken log written end → IsAnswered p.1 world log last → IsQuiet end → end ≢ SessionEnd.NoMemory
         → (written ≡ p.0.greeting ++ (transcript p.0 p.1 limit world input).text) × (end ≡ (transcript p.0 p.1 limit world input).end) }
-{
-}
+{}

@@ -9,7 +9,7 @@ mod piece;
 mod real;
 mod source;
 
-pub use ends::{After, Failed, FeedEnd, LineEnd, NoMemory, SessionEnd, Wire};
+pub use ends::{After, Failed, FeedEnd, LineEnd, SessionEnd, Wire};
 pub use feed::Feed;
 pub use laws::{an_input_decides_the_end, an_input_decides_the_session, each_text_has_one_cut};
 pub use memory::{MemSink, MemSource};

@@ -3,8 +3,9 @@ ghost use Rattle.std.specs.Io.KnownBytes.{ReadConsumes, WriteAppends};
 ghost use Rattle.wire_io.specs.Causes.{HasCause};
 ghost use Rattle.wire_io.specs.Memory.{FailsRead, read_count, after_read, after_failed_read, FailsWrite, write_count, after_write, after_failed_write};
 
-use super::ends::{Failed, NoMemory};
+use super::ends::Failed;
 use super::source::{Sink, Source};
+use quota_units::NoMemory;
 use std::alloc::Global;
 use std::marker::Model;
 
