@@ -6,7 +6,7 @@ use Rattle.account_core.specs.declared.calls.Call.TheVariants.{Quota}
 use Rattle.account_core.specs.declared.calls.Entry.{Entry}
 use Rattle.account_core.specs.Account.{Account}
 use Rattle.account_core.specs.Machine.{step, reply_of}
-use Rattle.account_core.specs.History.{account_after, replay, reply}
+use Rattle.account_core.specs.History.{replay, reply}
 use Rattle.account_core.specs.Plain.{plain_opened, plain_reply}
 use Rattle.quota_units.specs.Limiting.{LimitNumbers}
 

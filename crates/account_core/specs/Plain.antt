@@ -1,10 +1,10 @@
 -- An account without a store: one root with the empty name, the mailboxes INBOX and Trash, and no message.
-use Rattle.std.specs.Prelude.{ℕ, List, [], ◌∷◌, codes, None}
+use Rattle.std.specs.Prelude.{[], ◌∷◌, codes, None}
 use Rattle.quota_units.specs.Limiting.{LimitNumbers}
 use Rattle.quota_roots.specs.declared.root.RootSpec.{RootSpec}
 use Rattle.account_core.specs.declared.calls.Call.{Call}
 use Rattle.account_core.specs.declared.calls.Reply.{Reply}
-use Rattle.account_core.specs.Account.{Account, Opened}
+use Rattle.account_core.specs.Account.{Opened}
 use Rattle.account_core.specs.Machine.{reply_of}
 
 abbrev pub plain_root : RootSpec

@@ -30,24 +30,24 @@ module _ (is : ℕ → Bool) (text : List ℕ) where
   pub read_none : ReadTo 0
   read_none = go (many is text)
     where
-    go : (reading : Reading (List ℕ)) → reading ≡ with_front [] reading
-    go (got bytes rest) = refl
-    go (wrong rest) = refl
-    go short = refl
+      go : (reading : Reading (List ℕ)) → reading ≡ with_front [] reading
+      go (got bytes rest) = refl
+      go (wrong rest) = refl
+      go short = refl
 
   pub read_more : (i : ℕ) → i < length text → is (get_or text i 0) ≡ true → ReadTo i → ReadTo (i + 1)
   read_more i lt holds so_far =
-    so_far ∙ ap (λ l. with_front (take i text) (many is l)) (drop_more text i 0 lt)
-    ∙ ap (with_front (take i text)) (choose (is (get_or text i 0)) _ _ holds)
-    ∙ front_first (take i text) (get_or text i 0) (many is (drop (i + 1) text))
-    ∙ ap (λ l. with_front l (many is (drop (i + 1) text))) (sym (take_more text i 0 lt))
+      so_far ∙ ap (λ l. with_front (take i text) (many is l)) (drop_more text i 0 lt)
+      ∙ ap (with_front (take i text)) (choose (is (get_or text i 0)) _ _ holds)
+      ∙ front_first (take i text) (get_or text i 0) (many is (drop (i + 1) text))
+      ∙ ap (λ l. with_front l (many is (drop (i + 1) text))) (sym (take_more text i 0 lt))
 
   pub read_stops : (i : ℕ) → i < length text → is (get_or text i 0) ≡ false → ReadTo i → many is text ≡ got (take i text) (drop i text)
   read_stops i lt fails so_far =
-    so_far ∙ ap (λ l. with_front (take i text) (many is l)) (drop_more text i 0 lt)
-    ∙ ap (with_front (take i text)) (refuse (is (get_or text i 0)) _ _ fails)
-    ∙ ap (λ l. got l (get_or text i 0 ∷ drop (i + 1) text)) (append-nil (take i text))
-    ∙ ap (got (take i text)) (sym (drop_more text i 0 lt))
+      so_far ∙ ap (λ l. with_front (take i text) (many is l)) (drop_more text i 0 lt)
+      ∙ ap (with_front (take i text)) (refuse (is (get_or text i 0)) _ _ fails)
+      ∙ ap (λ l. got l (get_or text i 0 ∷ drop (i + 1) text)) (append-nil (take i text))
+      ∙ ap (got (take i text)) (sym (drop_more text i 0 lt))
 
   pub read_all : (i : ℕ) → length text ≤ i → ReadTo i → many is text ≡ short
   read_all i le so_far = so_far ∙ ap (λ l. with_front (take i text) (many is l)) (drop_all i text le)

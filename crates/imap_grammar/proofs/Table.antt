@@ -1,5 +1,5 @@
 -- What is read is a command of the table, and each command of the table is read.
-use Rattle.std.proofs.Common.{◌≡◌, ℕ, ◌+◌, ◌<◌, ◌≤◌, ◌⊎◌, Bool, true, false, ◌&&◌, IsTrue, ltb, leb, List, [], ◌∷◌, ◌++◌, length, take, map, Option, Some, None, refl, sym, ap, ◌∙◌, subst, inl, inr, arith, if◌then◌else◌, append_assoc, append-nil, length-append, bytes_eq, codes, eqb, eqb-true, lt-ltb, le-leb}
+use Rattle.std.proofs.Common.{◌≡◌, ℕ, ◌+◌, ◌<◌, ◌≤◌, ◌⊎◌, Bool, true, false, ◌&&◌, ltb, leb, List, [], ◌∷◌, ◌++◌, length, take, map, Option, Some, None, refl, sym, ap, ◌∙◌, subst, inl, inr, arith, if◌then◌else◌, append_assoc, append-nil, length-append, bytes_eq, codes, eqb, eqb-true, lt-ltb, le-leb}
 use Rattle.std.specs.List.{list_all}
 use Rattle.std.specs.Char.{to_ascii_lowercase, is_ascii_lowercase}
 use Rattle.std.proofs.lemmas.Bool.Decides.{nat_tests, leb_tells}
@@ -11,7 +11,7 @@ use Rattle.imap_grammar.specs.declared.command.Command.TheVariants.{GetQuota, Lo
 use Rattle.imap_grammar.specs.Bytes.{is_tag_byte, is_letter}
 use Rattle.imap_grammar.specs.Grammar.{Tagged, IsTag, IsLineEnd, IsWord, IsBody, IsCommand}
 use Rattle.imap_grammar.specs.Reading.{Reading, got, wrong, short, Reader, and_then, gives, fails, byte, with_first, many, line_end}
-use Rattle.imap_grammar.specs.Commands.{Word, getquota, logout, word_of, checked_tag, tag_at, getquota_arguments, logout_arguments, arguments_of, command_at, all_read, command_in}
+use Rattle.imap_grammar.specs.Commands.{getquota, logout, word_of, checked_tag, tag_at, getquota_arguments, logout_arguments, arguments_of, command_at, all_read, command_in}
 
 -- what is read stands at the front of the text, spelled so
 abbrev Takes : {A : Type 0} → (List ℕ → A → Type 0) → List ℕ → Reading A → Type 0
@@ -107,16 +107,16 @@ tag_behind : (bytes text rest : List ℕ) → list_all is_tag_byte bytes ≡ tru
 tag_behind bytes text rest each e =
     takes_weaker (Both (λ own v. own ≡ bytes) (λ v own w. (own ≡ []) × (w ≡ bytes) × IsTag bytes)) Tag text (checked_tag bytes rest) same
     (behind (λ own (v : List ℕ). own ≡ bytes) (λ v own w. (own ≡ []) × (w ≡ bytes) × IsTag bytes) text bytes rest bytes (checked_tag bytes rest) refl e
-        (checked (ltb 0 (length bytes) && leb (length bytes) 64) bytes rest (tag_fits bytes each)))
-    where
+    (checked (ltb 0 (length bytes) && leb (length bytes) 64) bytes rest (tag_fits bytes each)))
+  where
     same : (own v : List ℕ) → Both (λ own (v : List ℕ). own ≡ bytes) (λ v own w. (own ≡ []) × (w ≡ bytes) × IsTag bytes) own v → Tag own v
     same own v (a, b, u, i, (none, is, tag), j) =
-      let all : own ≡ bytes = j ∙ ap (λ l. l ++ b) i ∙ ap (λ l. bytes ++ l) none ∙ append-nil bytes in
-      (is ∙ sym all, subst IsTag (sym all) tag)
+        let all : own ≡ bytes = j ∙ ap (λ l. l ++ b) i ∙ ap (λ l. bytes ++ l) none ∙ append-nil bytes in
+        (is ∙ sym all, subst IsTag (sym all) tag)
 
 takes_tag : (text : List ℕ) → Takes Tag text (tag_at text)
 takes_tag text = go (many is_tag_byte text) (takes_many is_tag_byte text)
-    where
+  where
     go : (reading : Reading (List ℕ)) → Takes (Run is_tag_byte) text reading → Takes Tag text (and_then reading checked_tag)
     go (got v rest) p = let own : text ≡ v ++ rest = p.2 ∙ ap (λ l. l ++ rest) (sym p.1.0) in tag_behind v text rest (subst (λ l. list_all is_tag_byte l ≡ true) (sym p.1.0) p.1.1) own
     go (wrong rest) p = tt
@@ -136,7 +136,7 @@ takes_ends : {A : Type 0} (value : A) (text : List ℕ) → Takes (Ends value) t
 takes_ends {A} value text =
     takes_weaker (Both End (λ u. Nothing value)) (Ends value) text (and_then (line_end text) (λ end. gives value)) same
     (takes_then End (λ u. Nothing value) text (line_end text) (λ end. gives value) (takes_end text) (λ u rest. takes_gives value rest))
-    where
+  where
     same : (bytes : List ℕ) (v : A) → Both End (λ u. Nothing value) bytes v → Ends value bytes v
     same bytes v (a, b, u, end, (none, is), e) = (subst IsLineEnd (sym (ends_all value v bytes a b e none)) end, is)
 
@@ -146,7 +146,7 @@ takes_next : {A : Type 0} (x : ℕ) (Q : List ℕ → A → Type 0) (text : List
 takes_next {A} x Q text next q =
     takes_weaker (Both (Byte x) (λ u. Q)) (λ bytes v. (more : List ℕ) × Q more v × (bytes ≡ x ∷ more)) text (and_then (byte x text) (λ u. next)) same
     (takes_then (Byte x) (λ u. Q) text (byte x text) (λ u. next) (takes_byte x text) (λ u. q))
-    where
+  where
     same : (bytes : List ℕ) (v : A) → Both (Byte x) (λ u. Q) bytes v → (more : List ℕ) × Q more v × (bytes ≡ x ∷ more)
     same bytes v (a, b, u, i, is, e) = (b, is, step x bytes a b e i)
 
@@ -158,16 +158,16 @@ takes_getquota : (letters text : List ℕ) → IsWord (codes "getquota") letters
 takes_getquota letters text word =
     takes_weaker (λ bytes v. (a : List ℕ) × ((b : List ℕ) × ((c : List ℕ) × Ends (GetQuota []) c v × (b ≡ 34 ∷ c)) × (a ≡ 34 ∷ b)) × (bytes ≡ 32 ∷ a)) (Arguments true letters) text (getquota_arguments text) same
     (takes_next 32 (λ bytes v. (b : List ℕ) × ((c : List ℕ) × Ends (GetQuota []) c v × (b ≡ 34 ∷ c)) × (bytes ≡ 34 ∷ b)) text _ (λ rest.
-        takes_next 34 (λ bytes v. (c : List ℕ) × Ends (GetQuota []) c v × (bytes ≡ 34 ∷ c)) rest _ (λ rest2.
-            takes_next 34 (Ends (GetQuota [])) rest2 _ (takes_ends (GetQuota [])))))
-    where
+    takes_next 34 (λ bytes v. (c : List ℕ) × Ends (GetQuota []) c v × (bytes ≡ 34 ∷ c)) rest _ (λ rest2.
+    takes_next 34 (Ends (GetQuota [])) rest2 _ (takes_ends (GetQuota [])))))
+  where
     same : (bytes : List ℕ) (v : Command) → (a : List ℕ) × ((b : List ℕ) × ((c : List ℕ) × Ends (GetQuota []) c v × (b ≡ 34 ∷ c)) × (a ≡ 34 ∷ b)) × (bytes ≡ 32 ∷ a) → Arguments true letters bytes v
     same bytes v (a, (b, (c, (end, is), k), j), i) =
-      (codes " \"\"", c, subst (IsBody true (letters ++ codes " \"\"")) (sym is) (refl, letters, word, refl, refl), end, i ∙ ap (λ l. 32 ∷ l) (j ∙ ap (λ l. 34 ∷ l) k))
+        (codes " \"\"", c, subst (IsBody true (letters ++ codes " \"\"")) (sym is) (refl, letters, word, refl, refl), end, i ∙ ap (λ l. 32 ∷ l) (j ∙ ap (λ l. 34 ∷ l) k))
 
 takes_logout : (login : Bool) (letters text : List ℕ) → IsWord (codes "logout") letters → Takes (Arguments login letters) text (logout_arguments text)
 takes_logout login letters text word = takes_weaker (Ends Logout) (Arguments login letters) text (logout_arguments text) same (takes_ends Logout text)
-    where
+  where
     same : (bytes : List ℕ) (v : Command) → Ends Logout bytes v → Arguments login letters bytes v
     same bytes v (end, is) = ([], bytes, subst (IsBody login (letters ++ [])) (sym is) (subst (IsWord (codes "logout")) (sym (append-nil letters)) word), end, refl)
 
@@ -183,7 +183,7 @@ takes_word false false false letters text f g = takes_fails (Arguments false let
 takes_arguments : (login : Bool) (letters text : List ℕ) → Takes (Arguments login letters) text (arguments_of login (word_of letters) text)
 takes_arguments login letters text =
     takes_word login (bytes_eq (map to_ascii_lowercase letters) (codes "getquota")) (bytes_eq (map to_ascii_lowercase letters) (codes "logout")) letters text
-        (bytes_eq-Decides (map to_ascii_lowercase letters) (codes "getquota")).0 (bytes_eq-Decides (map to_ascii_lowercase letters) (codes "logout")).0
+    (bytes_eq-Decides (map to_ascii_lowercase letters) (codes "getquota")).0 (bytes_eq-Decides (map to_ascii_lowercase letters) (codes "logout")).0
 
 -- a word, its arguments and the line's end
 abbrev Line : Bool → List ℕ → Command → Type 0
@@ -193,10 +193,10 @@ takes_line : (login : Bool) (text : List ℕ) → Takes (Line login) text (and_t
 takes_line login text =
     takes_weaker (Both (Run is_letter) (Arguments login)) (Line login) text _ same
     (takes_then (Run is_letter) (Arguments login) text (many is_letter text) (λ letters. arguments_of login (word_of letters)) (takes_many is_letter text) (takes_arguments login))
-    where
+  where
     same : (bytes : List ℕ) (v : Command) → Both (Run is_letter) (Arguments login) bytes v → Line login bytes v
     same bytes v (a, b, letters, run, (rest, end, body, is_end, i), e) =
-      (letters ++ rest, end, body, is_end, e ∙ ap (λ l. l ++ b) (sym run.0) ∙ ap (λ l. letters ++ l) i ∙ sym (append_assoc letters rest end))
+        (letters ++ rest, end, body, is_end, e ∙ ap (λ l. l ++ b) (sym run.0) ∙ ap (λ l. letters ++ l) i ∙ sym (append_assoc letters rest end))
 
 -- the tag is given with the command
 abbrev Rest : Bool → List ℕ → List ℕ → Tagged → Type 0
@@ -217,9 +217,9 @@ takes_rest : (login : Bool) (tag text : List ℕ) → Takes (Rest login tag) tex
 takes_rest login tag text =
     takes_weaker {A = Tagged} (λ bytes v. (more : List ℕ) × (Line login more v.command × (v.tag ≡ tag)) × (bytes ≡ 32 ∷ more)) (Rest login tag) text _ same
     (takes_next {A = Tagged} 32 (λ bytes v. Line login bytes v.command × (v.tag ≡ tag)) text _ (λ rest.
-        subst (Takes {A = Tagged} (λ bytes v. Line login bytes v.command × (v.tag ≡ tag)) rest) (joined (many is_letter rest) (λ letters. arguments_of login (word_of letters)) (λ command. gives (record { tag = tag; command = command })))
-            (with_tag login tag rest (and_then (many is_letter rest) (λ letters. arguments_of login (word_of letters))) (takes_line login rest))))
-    where
+    subst (Takes {A = Tagged} (λ bytes v. Line login bytes v.command × (v.tag ≡ tag)) rest) (joined (many is_letter rest) (λ letters. arguments_of login (word_of letters)) (λ command. gives (record { tag = tag; command = command })))
+    (with_tag login tag rest (and_then (many is_letter rest) (λ letters. arguments_of login (word_of letters))) (takes_line login rest))))
+  where
     same : (bytes : List ℕ) (v : Tagged) → (more : List ℕ) × (Line login more v.command × (v.tag ≡ tag)) × (bytes ≡ 32 ∷ more) → Rest login tag bytes v
     same bytes v (more, (line, is), e) = (more, line, is, e)
 
@@ -228,11 +228,11 @@ pub read : (login : Bool) (text : List ℕ) → Takes (IsCommand login) text (co
 read login text =
     takes_weaker (Both Tag (Rest login)) (IsCommand login) text (command_at login text) same
     (takes_then Tag (Rest login) text (tag_at text) _ (takes_tag text) (takes_rest login))
-    where
+  where
     same : (bytes : List ℕ) (v : Tagged) → Both Tag (Rest login) bytes v → IsCommand login bytes v
     same bytes v (a, b, tag, (is, fits), (line, (body, end, is_body, is_end, i), own, j), e) =
-      let whole : bytes ≡ v.tag ++ 32 ∷ (body ++ end) = e ∙ ap (λ l. l ++ b) (sym is ∙ sym own) ∙ ap (λ l. v.tag ++ l) (j ∙ ap (λ l. 32 ∷ l) i) in
-      (body, end, subst IsTag (sym is ∙ sym own) fits, is_body, is_end, whole)
+        let whole : bytes ≡ v.tag ++ 32 ∷ (body ++ end) = e ∙ ap (λ l. l ++ b) (sym is ∙ sym own) ∙ ap (λ l. v.tag ++ l) (j ∙ ap (λ l. 32 ∷ l) i) in
+        (body, end, subst IsTag (sym is ∙ sym own) fits, is_body, is_end, whole)
 
 -- each command of the table is read
 and_parts : (a b : Bool) → (a && b) ≡ true → (a ≡ true) × (b ≡ true)
@@ -244,7 +244,6 @@ run_spelled is (x ∷ bytes) b rest each stops =
     let parts = and_parts (is x) (list_all is bytes) each in
     ap (λ c. if c then with_first x (many is (bytes ++ b ∷ rest)) else got [] (x ∷ (bytes ++ b ∷ rest))) parts.0 ∙ ap (with_first x) (run_spelled is bytes b rest parts.1 stops)
 
-
 choose : {A : Type 0} (c : Bool) (x y : A) → c ≡ true → (if c then x else y) ≡ x
 choose true x y e = refl
 choose false x y e = absurd cc
@@ -254,7 +253,7 @@ tag_spelled tag b rest is stops =
     let fits : (ltb 0 (length tag) && leb (length tag) 64) ≡ true = both_true (ltb 0 (length tag)) (leb (length tag) 64) (lt-ltb 0 (length tag) is.some) (le-leb (length tag) 64 is.short) in
     ap (λ r. and_then r checked_tag) (run_spelled is_tag_byte tag b rest is.each stops)
     ∙ ap (λ (reader : Reader (List ℕ)). reader (b ∷ rest)) (choose (ltb 0 (length tag) && leb (length tag) 64) (gives tag) fails fits)
-    where
+  where
     both_true : (c d : Bool) → c ≡ true → d ≡ true → (c && d) ≡ true
     both_true c d e f = ap (λ x. x && d) e ∙ f
 
@@ -264,10 +263,12 @@ end_spelled value end next (inr e) = ap (λ l. and_then (line_end (l ++ next)) (
 
 in_either : (c w : ℕ) → to_ascii_lowercase c ≡ w → 97 ≤ w → w ≤ 122 → (c < 65 → to_ascii_lowercase c ≡ c) → (90 < c → to_ascii_lowercase c ≡ c) → ((65 ≤ c) × (c ≤ 90)) ⊎ ((97 ≤ c) × (c ≤ 122))
 in_either c w e low high below above = elim (leb_tells c 64) [
-  inl h ↦ let same = below (omega (arith, h.1)) in absurd (omega (arith, h.1, same, e, low))
+  | inl h ↦ let same = below (omega (arith, h.1)) in absurd (omega (arith, h.1, same, e, low))
   | inr h ↦ elim (leb_tells c 90) [
-    inl k ↦ inl (omega (arith, h.1), k.1)
-    | inr k ↦ let same = above (omega (arith, k.1)) in inr (omega (arith, same, e, low), omega (arith, same, e, high)) ] ]
+    | inl k ↦ inl (omega (arith, h.1), k.1)
+    | inr k ↦ let same = above (omega (arith, k.1)) in inr (omega (arith, same, e, low), omega (arith, same, e, high))
+  ]
+]
 
 -- a letter in lower case is one in either
 letter : (c w : ℕ) → to_ascii_lowercase c ≡ w → is_ascii_lowercase w ≡ true → is_letter c ≡ true
@@ -300,7 +301,7 @@ line_spelled : (login : Bool) (tag body end next : List ℕ) (command : Command)
     → behind_tag login tag ((body ++ end) ++ next) ≡ got (record { tag = tag; command = command }) next
 line_spelled login tag body end next (GetQuota root) (logged_in, word, is_word, none, i) is_end =
     let text : (body ++ end) ++ next ≡ word ++ 32 ∷ (34 ∷ 34 ∷ (end ++ next)) =
-        ap (λ l. (l ++ end) ++ next) i ∙ ap (λ l. l ++ next) (append_assoc word (codes " \"\"") end) ∙ append_assoc word (codes " \"\"" ++ end) next in
+    ap (λ l. (l ++ end) ++ next) i ∙ ap (λ l. l ++ next) (append_assoc word (codes " \"\"") end) ∙ append_assoc word (codes " \"\"" ++ end) next in
     ap (behind_tag login tag) text
     ∙ ap (λ r. and_then r (λ letters text2. and_then (arguments_of login (word_of letters) text2) (tag_with tag))) (run_spelled is_letter word 32 (34 ∷ 34 ∷ (end ++ next)) (letters_are word (codes "getquota") is_word refl) refl)
     ∙ ap (λ w. and_then (arguments_of login w (32 ∷ 34 ∷ 34 ∷ (end ++ next))) (tag_with tag)) (is_getquota word is_word)
@@ -308,18 +309,20 @@ line_spelled login tag body end next (GetQuota root) (logged_in, word, is_word, 
     ∙ ap (λ r. and_then r (tag_with tag)) (end_spelled (GetQuota []) end next is_end)
     ∙ ap (λ n. got (record { tag = tag; command = GetQuota n }) next) (sym none)
 line_spelled login tag body end next Logout is is_end = logout_spelled is_end
-    where
+  where
     by_login : (l : Bool) → and_then (arguments_of l (Some logout) (end ++ next)) (tag_with tag) ≡ got (record { tag = tag; command = Logout }) next
     by_login true = ap (λ r. and_then r (tag_with tag)) (end_spelled Logout end next is_end)
     by_login false = ap (λ r. and_then r (tag_with tag)) (end_spelled Logout end next is_end)
+
     behind_word : (b : ℕ) (rest : List ℕ) → end ++ next ≡ b ∷ rest → is_letter b ≡ false → behind_tag login tag ((body ++ end) ++ next) ≡ got (record { tag = tag; command = Logout }) next
     behind_word b rest e stops =
-      let text : (body ++ end) ++ next ≡ body ++ b ∷ rest = append_assoc body end next ∙ ap (λ l. body ++ l) e in
-      ap (behind_tag login tag) text
-      ∙ ap (λ r. and_then r (λ letters text2. and_then (arguments_of login (word_of letters) text2) (tag_with tag))) (run_spelled is_letter body b rest (letters_are body (codes "logout") is refl) stops)
-      ∙ ap (λ w. and_then (arguments_of login w (b ∷ rest)) (tag_with tag)) (is_logout body is)
-      ∙ ap (λ l. and_then (arguments_of login (Some logout) l) (tag_with tag)) (sym e)
-      ∙ by_login login
+        let text : (body ++ end) ++ next ≡ body ++ b ∷ rest = append_assoc body end next ∙ ap (λ l. body ++ l) e in
+        ap (behind_tag login tag) text
+        ∙ ap (λ r. and_then r (λ letters text2. and_then (arguments_of login (word_of letters) text2) (tag_with tag))) (run_spelled is_letter body b rest (letters_are body (codes "logout") is refl) stops)
+        ∙ ap (λ w. and_then (arguments_of login w (b ∷ rest)) (tag_with tag)) (is_logout body is)
+        ∙ ap (λ l. and_then (arguments_of login (Some logout) l) (tag_with tag)) (sym e)
+        ∙ by_login login
+
     logout_spelled : IsLineEnd end → behind_tag login tag ((body ++ end) ++ next) ≡ got (record { tag = tag; command = Logout }) next
     logout_spelled (inl e) = behind_word 10 next (ap (λ l. l ++ next) e) refl
     logout_spelled (inr e) = behind_word 13 (10 ∷ next) (ap (λ l. l ++ next) e) refl
@@ -330,18 +333,18 @@ spelled login bytes next tagged (body, end, tag, is_body, is_end, e) =
     ap (command_at login) own
     ∙ ap (λ r. and_then r (λ t. and_then_byte login t)) (tag_spelled tagged.tag 32 ((body ++ end) ++ next) tag refl)
     ∙ line_spelled login tagged.tag body end next tagged.command is_body is_end
-    where
+  where
     and_then_byte : Bool → List ℕ → Reader Tagged
     and_then_byte l t text = and_then (byte 32 text) (λ space. behind_tag l t)
 
 -- the reading of a whole text
 pub command_read : (login : Bool) (text : List ℕ) (tagged : Tagged) → command_in login text ≡ Some tagged → IsCommand login text tagged
 command_read login text tagged e = go (command_at login text) (read login text) e
-    where
+  where
     go : (reading : Reading Tagged) → Takes (IsCommand login) text reading → all_read reading ≡ Some tagged → IsCommand login text tagged
     go (got v []) p i =
-      let same : v ≡ tagged = cc in
-      subst (IsCommand login text) same (subst (λ l. IsCommand login l v) (sym (p.2 ∙ append-nil p.0)) p.1)
+        let same : v ≡ tagged = cc in
+        subst (IsCommand login text) same (subst (λ l. IsCommand login l v) (sym (p.2 ∙ append-nil p.0)) p.1)
     go (got v (b ∷ rest)) p i = absurd cc
     go (wrong rest) p i = absurd cc
     go short p i = absurd cc
@@ -355,17 +358,17 @@ not_command login text tagged none is = let some = command_spelled login text ta
 -- the tag stands at the front
 pub tag_front : (login : Bool) (text rest : List ℕ) (tagged : Tagged) → command_at login text ≡ got tagged rest → (take (length tagged.tag) text ≡ tagged.tag) × (length tagged.tag < length text)
 tag_front login text rest tagged e = go (subst (Takes (IsCommand login) text) e (read login text))
-    where
+  where
     go : Takes (IsCommand login) text (got tagged rest) → (take (length tagged.tag) text ≡ tagged.tag) × (length tagged.tag < length text)
     go (bytes, (body, end, tag, is_body, is_end, i), j) =
-      let whole : text ≡ tagged.tag ++ (32 ∷ (body ++ end) ++ rest) = j ∙ ap (λ l. l ++ rest) i ∙ append_assoc tagged.tag (32 ∷ (body ++ end)) rest in
-      let sized : length text ≡ length tagged.tag + length (32 ∷ (body ++ end) ++ rest) = ap length whole ∙ length-append tagged.tag (32 ∷ (body ++ end) ++ rest) in
-      (ap (take (length tagged.tag)) whole ∙ take_at tagged.tag (32 ∷ (body ++ end) ++ rest) (length tagged.tag) refl, omega (arith, sized))
+        let whole : text ≡ tagged.tag ++ (32 ∷ (body ++ end) ++ rest) = j ∙ ap (λ l. l ++ rest) i ∙ append_assoc tagged.tag (32 ∷ (body ++ end)) rest in
+        let sized : length text ≡ length tagged.tag + length (32 ∷ (body ++ end) ++ rest) = ap length whole ∙ length-append tagged.tag (32 ∷ (body ++ end) ++ rest) in
+        (ap (take (length tagged.tag)) whole ∙ take_at tagged.tag (32 ∷ (body ++ end) ++ rest) (length tagged.tag) refl, omega (arith, sized))
 
 pub tagged_in : (login : Bool) (text rest : List ℕ) (tagged : Tagged) (command : Command) → command_at login text ≡ got tagged rest → rest ≡ [] → command ≡ tagged.command
     → command_in login text ≡ Some (record { tag = take (length tagged.tag) text; command = command })
 tagged_in login text rest tagged command e none same =
     ap all_read (e ∙ ap (got tagged) none) ∙ tagged_eq (take (length tagged.tag) text) tagged.tag command tagged.command (tag_front login text rest tagged e).0 same
-    where
+  where
     tagged_eq : (a b : List ℕ) (c d : Command) → a ≡ b → c ≡ d → ◌≡◌ {A = Option Tagged} (Some (record { tag = b; command = d })) (Some (record { tag = a; command = c }))
     tagged_eq a b c d i j = cc

@@ -1,8 +1,7 @@
 -- Bytes that are no tag.
-use Rattle.std.proofs.Common.{◌≡◌, ℕ, ◌<◌, ◌≤◌, Bool, true, false, ◌&&◌, ltb, leb, List, [], ◌∷◌, length, refl, sym, subst, ap, arith, if◌then◌else◌}
+use Rattle.std.proofs.Common.{◌≡◌, ℕ, ◌<◌, Bool, true, false, ◌&&◌, ltb, leb, List, [], ◌∷◌, length, refl, sym, subst, arith, if◌then◌else◌}
 use Rattle.std.proofs.lemmas.Bool.Decides.{nat_tests}
 use Rattle.imap_grammar.specs.declared.readers.Stop.{Stop}
-use Rattle.imap_grammar.specs.declared.readers.Stop.TheVariants.{Wrong, Short}
 use Rattle.imap_grammar.specs.Reading.{Reader, gives, fails, Stops, FailsAt}
 use Rattle.imap_grammar.specs.Commands.{checked_tag}
 

@@ -49,7 +49,11 @@ pub fn read_command(alloc: Global, text: &[u8], login: bool) -> Result<Command, 
 /// # Errors
 ///
 /// Those of `read_command`.
-pub fn read_tagged(alloc: Global, text: &[u8], login: bool) -> Result<(Command, usize), CommandFault>
+pub fn read_tagged(
+    alloc: Global,
+    text: &[u8],
+    login: bool,
+) -> Result<(Command, usize), CommandFault>
     ensures short { IfOk result (λ x. x.1 < length text.now) }
     ensures command { IfOk result (λ x. command_in login text.now ≡ Some (record { tag = take x.1 text.now; command = x.0 })) }
     ensures not_built { IfErr result (λ fault. fault ≡ CommandFault.NotBuilt → command_in login text.now ≡ None) }

@@ -2,3 +2,4 @@ pub mod Owning
 pub mod Lines
 pub mod Taking
 pub mod Running
+pub mod Controlling

@@ -42,6 +42,10 @@ fresh n = record { opened = plain_opened (record { octets = Some (1024 * n); cou
 abbrev pub session_of : ℕ → List ℕ → Transcript
 session_of n input = transcript imap owner input_limit (fresh n) input
 
+-- a session of such an account, to its end
+abbrev pub RunsSession : (left left' written written' : Option (List ℕ)) → ℕ → SessionEnd → Type 0
+RunsSession left left' written written' n end = (account' : Book) × IsSession left left' written written' (fresh n) account' end
+
 pub data Controls (words : List (List ℕ)) (left left' written written' : Option (List ℕ)) (status : ℕ) : Type 0 where
   -- a session of an account with N units
   runs : (n : ℕ) (account' : Book) (end : SessionEnd) → IsForm words n → IsSession left left' written written' (fresh n) account' end → status ≡ status_of end

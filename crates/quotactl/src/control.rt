@@ -1,18 +1,17 @@
 // The program over its words, its source and its sink.
-ghost use Rattle.std.specs.Prelude.{◌≡◌, ◌≢◌, ◌<◌, ◌≤◌, ◌++◌, ℕ, map, IfSome, IfNone};
+ghost use Rattle.std.specs.Prelude.{◌≡◌, ◌≢◌, ◌<◌, ◌≤◌, ◌++◌, ◌↔◌, ℕ, IsTrue, map, codes, IfSome, IfNone};
 ghost use Rattle.std.specs.String.{string_bytes};
 ghost use Rattle.std.specs.Fmt.{decimal};
 ghost use Rattle.std.specs.Io.KnownBytes.{Appends};
 ghost use Rattle.wire_io.specs.Causes.{Rose};
 ghost use Rattle.quotactl.specs.Texts.{greeting};
-ghost use Rattle.quotactl.specs.Serving.{IsSession};
-ghost use Rattle.quotactl.specs.Control.{IsForm, IsNoForm, Controls, status_of, usage_line, fresh, session_of};
+ghost use Rattle.quotactl.specs.Control.{IsForm, IsNoForm, RunsSession, Controls, status_of, usage_line, session_of};
 
 use crate::session::run_session;
 use account_core::PlainAccount;
-use quota_units::{Limits, limit_of_units, number_in};
+use quota_units::{Limits, numeral_in};
 use std::alloc::Global;
-use wire_io::{SessionEnd, Sink, Source, send};
+use wire_io::{Failed, SessionEnd, Sink, Source, send};
 
 /// What answers words that are of no form.
 const USAGE: &[u8] = b"usage: quotactl session N | imap [ACCOUNT] | jmap | policy | recalc ACCOUNT | check | workload N\n";
@@ -31,27 +30,84 @@ fn status(end: SessionEnd) -> u8
     }
 }
 
-/// The number that a word is: decimal digits with no leading zero, of 1 to 8796093022207.
+/// The units of storage that a word names: 1 to 8796093022207, in decimal digits with no leading zero.
 fn units_in(word: &[u8]) -> Option<u64>
     ensures some { IfSome result (λ n. (word.now ≡ decimal n) × (0 < n) × (n ≤ 8796093022207)) }
     ensures none { IfNone result ((n : ℕ) → word.now ≡ decimal n → 0 < n → n ≤ 8796093022207 → ⊥) }
 {
-    if word.first() == Some(&b'0') {
-        return None;
-    }
-    match number_in(word) {
-        Some(n) if n <= 8796093022207 => Some(n),
+    match numeral_in(word) {
+        Some(n) if 0 < n && n <= 8796093022207 => Some(n),
         _ => None,
     }
 }
 
-/// The number of units, where the words are `session N`.
+/// Whether the word is `session`.
+fn is_session(word: &[u8]) -> bool
+    ensures { IsTrue result ↔ (word.now ≡ codes "session") }
+{
+    word == b"session".as_slice()
+}
+
+/// The units of storage, where the words are `session N`.
 fn session_units(words: &[String]) -> Option<u64>
     ensures some { IfSome result (λ n. IsForm (map string_bytes words.now) n) }
     ensures none { IfNone result (IsNoForm (map string_bytes words.now)) }
 {
     match words {
-        [form, number] if form.as_bytes() == b"session".as_slice() => units_in(number.as_bytes()),
+        [form, number] if is_session(form.as_bytes()) => match units_in(number.as_bytes()) {
+            Some(n) => Some(n),
+            None => None,
+        },
         _ => None,
+    }
+}
+
+/// Serves a session of an account with so many units of storage.
+fn run<S: Source, O: Sink>(alloc: Global, units: u64, source: &mut S, sink: &mut O) -> SessionEnd
+    requires some { 0 < units }
+    requires bounded { units ≤ 8796093022207 }
+    ensures session { RunsSession (S.left source.old) (S.left source.new) (O.written sink.old) (O.written sink.new) units result }
+    ensures read_fault { result ≡ SessionEnd.ReadFault → Rose (S.faults source.old) (S.faults source.new) }
+    ensures read_kept { result ≢ SessionEnd.ReadFault → S.faults source.new ≡ S.faults source.old }
+    ensures write_fault { result ≡ SessionEnd.WriteFault → Rose (O.faults sink.old) (O.faults sink.new) }
+    ensures write_kept { result ≢ SessionEnd.WriteFault → O.faults sink.new ≡ O.faults sink.old }
+{
+    let Some(limits) = Limits::new(Some(1024 * units), None) else {
+        unreachable!()
+    };
+    let Ok(mut account) = PlainAccount::new(alloc, limits) else {
+        unreachable!()
+    };
+    run_session(alloc, &mut account, source, sink)
+}
+
+/// Does what the words of `quotactl` say, over a source and a sink, and gives the exit status.
+///
+/// The words are those after the program's name. `session N`, with N from 1 to 8796093022207 in decimal digits with no
+/// leading zero, is a session of IMAP for the owner of an account with N units of storage of 1024 octets. Any other words
+/// are answered with the usage line and status 1.
+pub fn control<S: Source, O: Sink>(alloc: Global, words: &[String], source: &mut S, sink: &mut O) -> u8
+    // What the words say is done, or they are of no form and the usage line says so.
+    ensures controls { Controls (map string_bytes words.now) (S.left source.old) (S.left source.new) (O.written sink.old) (O.written sink.new) result }
+
+    // A fault is told where it came, and only there.
+    ensures read_fault { result ≡ 4 → Rose (S.faults source.old) (S.faults source.new) }
+    ensures read_kept { result ≢ 4 → S.faults source.new ≡ S.faults source.old }
+    ensures write_fault { result ≡ 5 → Rose (O.faults sink.old) (O.faults sink.new) }
+    ensures write_kept { result ≢ 5 → O.faults sink.new ≡ O.faults sink.old }
+
+    // Where nothing failed, words and input decide the status and all that is written, but for want of memory.
+    ensures output { (n : ℕ) → IsForm (map string_bytes words.now) n → IfSome (S.left source.old) (λ input.
+        (Rose (S.faults source.old) (S.faults source.new) → ⊥) → (Rose (O.faults sink.old) (O.faults sink.new) → ⊥) → result ≢ 6
+        → (result ≡ status_of (session_of n input).end) × Appends (O.written sink.old) (O.written sink.new) (greeting ++ (session_of n input).text)) }
+    ensures usage { IsNoForm (map string_bytes words.now) → (Rose (O.faults sink.old) (O.faults sink.new) → ⊥)
+        → (result ≡ 1) × Appends (O.written sink.old) (O.written sink.new) usage_line }
+{
+    match session_units(words) {
+        Some(units) => status(run(alloc, units, source, sink)),
+        None => match send(sink, USAGE) {
+            Ok(()) => 1,
+            Err(Failed) => 5,
+        },
     }
 }

@@ -5,4 +5,33 @@ mod control;
 mod session;
 mod texts;
 
-fn main(_rt: HostRuntime) {}
+use control::control;
+use std::env;
+use std::io::{self, ErrorKind};
+use std::process::ExitCode;
+use std::rt::Env;
+use wire_io::{StdSink, StdSource};
+
+/// The exit status where there is no memory for the words.
+const NO_MEMORY: u8 = 6;
+
+/// The words after the program's name. Words that are no text are none, which is no form.
+fn words<R: Env + AllocGlobal>(rt: &R) -> io::Result<Vec<String>> {
+    match env::args(rt) {
+        Ok(mut args) => {
+            drop(args.next());
+            Ok(args.collect(rt.alloc())?)
+        }
+        Err(fault) if fault.kind() == ErrorKind::OutOfMemory => Err(fault),
+        Err(_) => Ok(Vec::new(rt.alloc())),
+    }
+}
+
+fn main(rt: HostRuntime) -> ExitCode {
+    let Ok(words) = words(&rt) else {
+        return ExitCode::from(NO_MEMORY);
+    };
+    let mut source = StdSource::new(rt.stdin());
+    let mut sink = StdSink::new(io::writer(&rt));
+    ExitCode::from(control(rt.alloc(), words.as_slice(), &mut source, &mut sink))
+}

@@ -1,5 +1,5 @@
 -- No spelling begins another, each spells one request, and each text has one cut.
-use Rattle.std.proofs.Common.{◌≡◌, ℕ, suc, zero, ◌+◌, ◌<◌, ◌≤◌, ◌⊎◌, List, [], ◌∷◌, ◌++◌, length, Option, Some, None, refl, sym, ap, ◌∙◌, inl, inr, subst, append_assoc, append-nil, arith, length-append}
+use Rattle.std.proofs.Common.{◌≡◌, ℕ, suc, zero, ◌+◌, ◌<◌, ◌≤◌, List, [], ◌∷◌, ◌++◌, length, Option, Some, None, refl, sym, ap, ◌∙◌, inl, inr, subst, append_assoc, append-nil, arith, length-append}
 use Rattle.std.proofs.lemmas.List.{append_cancel_left}
 use Rattle.wire_io.specs.Protocol.{Protocol, Spells, IsFirst, IsRest, Spelling, Spellings, spelled_bytes, IsCut, IsFilled, HasOneCut}
 use Rattle.wire_io.specs.Transcript.{Found, or_later, first_request}

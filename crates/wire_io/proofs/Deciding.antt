@@ -1,16 +1,16 @@
 -- The bytes of an input decide how a session ends, where nothing fails.
 use Rattle.std.proofs.lemmas.Bool.Decides.{nat_tests}
-use Rattle.std.proofs.Common.{true, false, leb, ◌≡◌, ◌≢◌, ℕ, suc, zero, ◌+◌, ◌<◌, ◌≤◌, ◌⊎◌, List, [], ◌∷◌, ◌++◌, length, Option, Some, None, refl, sym, ap, ◌∙◌, inl, inr, subst, append_assoc, append-nil, arith, length-append}
+use Rattle.std.proofs.Common.{true, false, leb, ◌≡◌, ◌≢◌, ℕ, ◌+◌, ◌<◌, ◌≤◌, ◌⊎◌, List, [], ◌∷◌, ◌++◌, length, Option, Some, None, refl, sym, ap, ◌∙◌, inl, inr, subst, append_assoc, append-nil, arith, length-append}
 use Rattle.wire_io.specs.declared.ends.After.{After}
 use Rattle.wire_io.specs.declared.ends.After.TheVariants.{Open, Closing, Stopping}
 use Rattle.wire_io.specs.declared.ends.SessionEnd.{SessionEnd}
 use Rattle.wire_io.specs.declared.ends.SessionEnd.TheVariants.{Closed, Stopped, Truncated, InputLimit, ReadFault, WriteFault, NoMemory}
-use Rattle.wire_io.specs.Work.{Work, Does, AlwaysEnds}
+use Rattle.wire_io.specs.Work.{Does, AlwaysEnds}
 use Rattle.wire_io.specs.Protocol.{Protocol, Spells, IsRest, Spelling, spelled_bytes, IsFilled}
-use Rattle.wire_io.specs.Session.{Exchange, bytes_of, IsExchange, Exchanges, Waits, Finishes, Ends, IsWorked, Session, Outlives, IsFinished, RestEnds, InputEnds, IsQuiet}
+use Rattle.wire_io.specs.Session.{Exchange, bytes_of, Exchanges, Waits, Finishes, Ends, Session, Outlives, IsFinished, RestEnds, InputEnds, IsQuiet}
 use Rattle.wire_io.specs.Transcript.{end_of_rest}
 use Rattle.wire_io.proofs.Fronts.{fronts}
-use Rattle.wire_io.proofs.Cuts.{same_front, no_front, some_byte, rest_of, none_whole}
+use Rattle.wire_io.proofs.Cuts.{same_front, no_front, rest_of, none_whole}
 
 -- the end that a request makes of a session
 abbrev pub end_after : After → Option SessionEnd

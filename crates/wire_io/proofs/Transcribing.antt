@@ -1,6 +1,6 @@
 -- The session that was held is the one that its input gives.
-use Rattle.std.proofs.Common.{◌≡◌, ◌≢◌, ℕ, suc, zero, ◌+◌, ◌-◌, ◌<◌, ◌≤◌, ◌⊎◌, List, [], ◌∷◌, ◌++◌, length, take, drop, min, Option, Some, None, refl, sym, ap, ◌∙◌, inl, inr, subst, append_assoc, append-nil, arith, length-append, length-take, take-append-drop}
-use Rattle.std.proofs.lemmas.List.{nil_from_length, take-append-le, take_all, drop-append-le}
+use Rattle.std.proofs.Common.{◌≡◌, ◌≢◌, ℕ, suc, zero, ◌+◌, ◌-◌, ◌<◌, ◌≤◌, List, [], ◌∷◌, ◌++◌, length, take, min, Option, Some, None, refl, sym, ap, ◌∙◌, inl, inr, subst, append_assoc, append-nil, arith, length-append, length-take}
+use Rattle.std.proofs.lemmas.List.{nil_from_length}
 use Rattle.std.proofs.Math.Seq.{take-nil}
 use Rattle.wire_io.specs.declared.ends.After.{After}
 use Rattle.wire_io.specs.declared.ends.After.TheVariants.{Open, Closing, Stopping}
@@ -8,7 +8,7 @@ use Rattle.wire_io.specs.declared.ends.SessionEnd.{SessionEnd}
 use Rattle.wire_io.specs.declared.ends.SessionEnd.TheVariants.{Closed, Stopped, Truncated, InputLimit, ReadFault, WriteFault, NoMemory}
 use Rattle.wire_io.specs.Work.{Work, ask, say, Does}
 use Rattle.wire_io.specs.Protocol.{Protocol, Spells, IsRest, IsFilled}
-use Rattle.wire_io.specs.Session.{Exchange, bytes_of, log_of, text_of, IsExchange, Exchanges, Waits, Finishes, Ends, IsWorked, Session, IsQuiet}
+use Rattle.wire_io.specs.Session.{Exchange, bytes_of, log_of, text_of, Exchanges, Waits, Finishes, Ends, Session, IsQuiet}
 use Rattle.wire_io.specs.Transcript.{Transcript, Answers, IsAnswered, Done, perform, Found, or_waits, going_on, end_of_rest, first_request, transcript_from, transcript}
 use Rattle.wire_io.proofs.Cuts.{same_front, no_front, some_byte, find_is, IsFind}
 use Rattle.wire_io.proofs.Deciding.{end_none, end_short, end_full}

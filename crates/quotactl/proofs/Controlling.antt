@@ -1,0 +1,101 @@
+-- What the program writes, as a function of its words and its input.
+use Rattle.std.proofs.Common.{true, false, ◌≡◌, ◌≢◌, ◌+◌, ◌<◌, ◌≤◌, ◌^◌, ◌⊎◌, ℕ, suc, zero, Bool, leb, List, [], ◌∷◌, ◌++◌, length, get_or, map, Option, Some, None, IfSome, refl, sym, ap, ◌∙◌, subst, append-nil, inl, inr, arith, if◌then◌else◌, codes}
+use Rattle.std.proofs.lemmas.Bool.Decides.{nat_tests}
+use Rattle.std.proofs.lemmas.Fmt.{decimal_injective}
+use Rattle.std.specs.Fmt.{decimal}
+use Rattle.std.specs.Io.KnownBytes.{Consumes, Appends}
+use Rattle.wire_io.specs.declared.ends.SessionEnd.{SessionEnd}
+use Rattle.wire_io.specs.declared.ends.SessionEnd.TheVariants.{ReadFault, WriteFault, NoMemory}
+use Rattle.wire_io.specs.Session.{IsQuiet}
+use Rattle.wire_io.specs.Transcript.{IsAnswered}
+use Rattle.wire_io.proofs.Transcribing.{session_decided}
+use Rattle.account_core.specs.declared.calls.Call.{Call}
+use Rattle.account_core.specs.declared.calls.Entry.{Entry}
+use Rattle.account_core.specs.Account.{Opened}
+use Rattle.account_core.specs.History.{Answer, replied, store, journal_full, Book, Sits, AreNone, Logged, reply}
+use Rattle.quotactl.specs.Imap.{imap}
+use Rattle.quotactl.specs.Texts.{greeting}
+use Rattle.quotactl.specs.Owner.{is_full, owner}
+use Rattle.quotactl.specs.Serving.{input_limit, NeverStore, Owns, IsSession}
+use Rattle.quotactl.specs.Control.{IsForm, RunsSession, status_of, fresh, session_of}
+use Rattle.quotactl.proofs.Lines.{imap_filled}
+
+abbrev book : Opened → List Entry → Book
+book opened history = record { opened = opened; history = history }
+
+-- a call where there is room, and one where there is none
+answered_room : (opened : Opened) (seen : List Entry) (call : Call) → length seen < opened.journal
+    → (owner.answer (book opened seen) call ≡ replied (reply opened seen call)) × (owner.after (book opened seen) call ≡ book opened (seen ++ record { caller = 0; call = call; fault = false } ∷ []))
+answered_room opened seen call lt =
+    let open_still : is_full (book opened seen) ≡ false = grind (arith, nat_tests) in
+    (ap (λ (c : Bool). if c then journal_full else replied (reply opened seen call)) open_still,
+     ap (λ (c : Bool). if c then book opened seen else book opened (seen ++ record { caller = 0; call = call; fault = false } ∷ [])) open_still)
+
+answered_full : (opened : Opened) (seen : List Entry) (call : Call) → length seen ≡ opened.journal
+    → (owner.answer (book opened seen) call ≡ journal_full) × (owner.after (book opened seen) call ≡ book opened seen)
+answered_full opened seen call e =
+    let full : is_full (book opened seen) ≡ true = grind (arith, nat_tests) in
+    (ap (λ (c : Bool). if c then journal_full else replied (reply opened seen call)) full,
+     ap (λ (c : Bool). if c then book opened seen else book opened (seen ++ record { caller = 0; call = call; fault = false } ∷ [])) full)
+
+-- a call, and then the rest
+answered_call : (opened : Opened) (seen next : List Entry) (call : Call) (log : List (Call × Answer)) (last : Book) → IsAnswered owner (book opened next) log last
+    → (a : Answer) → Sits opened 0 seen call a next → a ≢ store → (a ≡ owner.answer (book opened seen) call) × IsAnswered owner (owner.after (book opened seen) call) log last
+answered_call opened seen next call log last more (replied given) (room, is, grown) n =
+    let at = answered_room opened seen call room in
+    (ap replied is ∙ sym at.0, subst (λ w. IsAnswered owner w log last) (ap (book opened) grown ∙ sym at.1) more)
+answered_call opened seen next call log last more store s n = absurd (n refl)
+answered_call opened seen next call log last more journal_full (full, same) n =
+    let at = answered_full opened seen call full in
+    (sym at.0, subst (λ w. IsAnswered owner w log last) (ap (book opened) same ∙ sym at.1) more)
+
+-- the owner's calls are answered as the account alone answers them
+answered_log : (opened : Opened) (seen seen' : List Entry) (log : List (Call × Answer)) → Logged AreNone opened 0 seen log seen' → NeverStore log → IsAnswered owner (book opened seen) log (book opened seen')
+answered_log opened seen seen' [] (others, none, e) never = ap (book opened) (e ∙ ap (λ l. seen ++ l) none ∙ append-nil seen)
+answered_log opened seen seen' ((call, answer) ∷ log) (others, next, none, sits, rest) never =
+    answered_call opened seen next call log (book opened seen') (answered_log opened next seen' log rest never.1) answer
+        (subst (λ s. Sits opened 0 s call answer next) (ap (λ l. seen ++ l) none ∙ append-nil seen) sits) never.0
+
+owned_answers : (account account' : Book) (log : List (Call × Answer)) → Owns account account' log → IsAnswered owner account log account'
+owned_answers account account' log owns =
+    subst (λ o. IsAnswered owner account log (book o account'.history)) (sym owns.opened) (answered_log account.opened account.history account'.history log owns.logged owns.no_store)
+
+-- a session is the one that its input gives
+pub output_is : (left left' written written' : Option (List ℕ)) (n : ℕ) (account' : Book) (end : SessionEnd) → IsSession left left' written written' (fresh n) account' end → IsQuiet end → end ≢ NoMemory
+    → IfSome left (λ input. (end ≡ (session_of n input).end) × Appends written written' (greeting ++ (session_of n input).text))
+output_is None left' written written' n account' end s quiet some = tt
+output_is (Some input) None written written' n account' end s quiet some = absurd s.consumed
+output_is (Some input) (Some rest) written written' n account' end s quiet some =
+    let is = session_decided imap owner input_limit imap_filled input s.taken rest s.log s.text end (fresh n) account' s.consumed s.session (owned_answers (fresh n) account' s.log s.owned) quiet some in
+    (is.1, subst (Appends written written') is.0 s.appended)
+
+form_number : (words : List (List ℕ)) (n m : ℕ) → IsForm words n → IsForm words m → n ≡ m
+form_number words n m a b =
+    let both : codes "session" ∷ decimal n ∷ [] ≡ codes "session" ∷ decimal m ∷ [] = sym a.words_are ∙ b.words_are in
+    let same : decimal n ≡ decimal m = cc in
+    decimal_injective n m (omega (arith, a.bounded)) (omega (arith, b.bounded)) same
+
+-- the status and all that is written
+pub control_output : (words : List (List ℕ)) (left left' written written' : Option (List ℕ)) (units m : ℕ) (end : SessionEnd) (status : ℕ) (R W : Type 0) → IsForm words units → IsForm words m
+    → RunsSession left left' written written' units end → status ≡ status_of end → (end ≡ ReadFault → R) → (end ≡ WriteFault → W)
+    → IfSome left (λ input. (R → ⊥) → (W → ⊥) → status ≢ 6 → (status ≡ status_of (session_of m input).end) × Appends written written' (greeting ++ (session_of m input).text))
+control_output words None left' written written' units m end status R W form own runs is read write = tt
+control_output words (Some input) left' written written' units m end status R W form own runs is read write = λ unread unwritten some.
+    let quiet : IsQuiet end = ((λ e. unread (read e)), (λ e. unwritten (write e))) in
+    let memory : end ≢ NoMemory = λ e. some (is ∙ ap status_of e) in
+    let same = form_number words units m form own in
+    let out = output_is (Some input) left' written written' m runs.0 end (subst (λ n. IsSession (Some input) left' written written' (fresh n) runs.0 end) same runs.1) quiet memory in
+    (is ∙ ap status_of out.0, out.1)
+
+-- two words
+pub two_words : {X : Type 0} (xs : List X) (a b : X) → 2 ≤ length xs → length xs < 3 → a ≡ get_or xs 0 a → b ≡ get_or xs 1 b → xs ≡ a ∷ b ∷ []
+two_words [] a b ge lt i j = absurd (omega (arith, ge))
+two_words (x ∷ []) a b ge lt i j = absurd (omega (arith, ge))
+two_words (x ∷ y ∷ []) a b ge lt i j = ap (λ u. u ∷ y ∷ []) (sym i) ∙ ap (λ v. a ∷ v ∷ []) (sym j)
+two_words (x ∷ y ∷ z ∷ xs) a b ge lt i j = absurd (omega (arith, lt))
+
+-- no other number is spelled so
+pub not_units : (word : List ℕ) (n : ℕ) → word ≡ decimal n → n < 2 ^ 64 → (n ≤ 0) ⊎ (8796093022207 < n) → (m : ℕ) → word ≡ decimal m → 0 < m → m ≤ 8796093022207 → ⊥
+not_units word n e fits out m i some most =
+    let same : n ≡ m = decimal_injective n m fits (omega (arith, most)) (sym e ∙ i) in
+    elim out [ inl none ↦ omega (arith, none, same, some) | inr above ↦ omega (arith, above, same, most) ]
