@@ -6,3 +6,6 @@ mod plain;
 
 pub use calls::{Call, Entry, Reply, RootRow, StepError};
 pub use plain::PlainAccount;
+
+#[cfg(test)]
+mod tests;

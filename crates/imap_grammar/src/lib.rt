@@ -7,3 +7,6 @@ mod parts;
 mod readers;
 
 pub use command::{Command, CommandFault, read_command, read_tagged};
+
+#[cfg(test)]
+mod tests;

@@ -27,16 +27,18 @@ book opened history = record { opened = opened; history = history }
 answered_room : (opened : Opened) (seen : List Entry) (call : Call) → length seen < opened.journal
     → (owner.answer (book opened seen) call ≡ replied (reply opened seen call)) × (owner.after (book opened seen) call ≡ book opened (seen ++ record { caller = 0; call = call; fault = false } ∷ []))
 answered_room opened seen call lt =
-    let open_still : is_full (book opened seen) ≡ false = grind (arith, nat_tests) in
-    (ap (λ (c : Bool). if c then journal_full else replied (reply opened seen call)) open_still,
-     ap (λ (c : Bool). if c then book opened seen else book opened (seen ++ record { caller = 0; call = call; fault = false } ∷ [])) open_still)
+    let open_still : is_full (book opened seen) ≡ false = grind (arith, nat_tests) in (
+      ap (λ (c : Bool). if c then journal_full else replied (reply opened seen call)) open_still,
+      ap (λ (c : Bool). if c then book opened seen else book opened (seen ++ record { caller = 0; call = call; fault = false } ∷ [])) open_still,
+    )
 
 answered_full : (opened : Opened) (seen : List Entry) (call : Call) → length seen ≡ opened.journal
     → (owner.answer (book opened seen) call ≡ journal_full) × (owner.after (book opened seen) call ≡ book opened seen)
 answered_full opened seen call e =
-    let full : is_full (book opened seen) ≡ true = grind (arith, nat_tests) in
-    (ap (λ (c : Bool). if c then journal_full else replied (reply opened seen call)) full,
-     ap (λ (c : Bool). if c then book opened seen else book opened (seen ++ record { caller = 0; call = call; fault = false } ∷ [])) full)
+    let full : is_full (book opened seen) ≡ true = grind (arith, nat_tests) in (
+      ap (λ (c : Bool). if c then journal_full else replied (reply opened seen call)) full,
+      ap (λ (c : Bool). if c then book opened seen else book opened (seen ++ record { caller = 0; call = call; fault = false } ∷ [])) full,
+    )
 
 -- a call, and then the rest
 answered_call : (opened : Opened) (seen next : List Entry) (call : Call) (log : List (Call × Answer)) (last : Book) → IsAnswered owner (book opened next) log last
@@ -54,7 +56,7 @@ answered_log : (opened : Opened) (seen seen' : List Entry) (log : List (Call × 
 answered_log opened seen seen' [] (others, none, e) never = ap (book opened) (e ∙ ap (λ l. seen ++ l) none ∙ append-nil seen)
 answered_log opened seen seen' ((call, answer) ∷ log) (others, next, none, sits, rest) never =
     answered_call opened seen next call log (book opened seen') (answered_log opened next seen' log rest never.1) answer
-        (subst (λ s. Sits opened 0 s call answer next) (ap (λ l. seen ++ l) none ∙ append-nil seen) sits) never.0
+    (subst (λ s. Sits opened 0 s call answer next) (ap (λ l. seen ++ l) none ∙ append-nil seen) sits) never.0
 
 owned_answers : (account account' : Book) (log : List (Call × Answer)) → Owns account account' log → IsAnswered owner account log account'
 owned_answers account account' log owns =

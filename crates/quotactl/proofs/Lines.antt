@@ -32,9 +32,9 @@ some_end : (body more : List ℕ) → ends (body ++ 10 ∷ more) ≡ true
 some_end [] more = refl
 some_end (b ∷ body) more = ap (λ c. eqb b 10 || c) (some_end body more) ∙ or_true (eqb b 10)
   where
-  or_true : (c : Bool) → (c || true) ≡ true
-  or_true true = refl
-  or_true false = refl
+    or_true : (c : Bool) → (c || true) ≡ true
+    or_true true = refl
+    or_true false = refl
 
 -- a shorter front of a text with no end but at its last byte has none
 pub no_end_front : (front : List ℕ) (more : List ℕ) → HasNoEnd (front ++ more) → HasNoEnd front
@@ -45,9 +45,9 @@ line_front : (body front : List ℕ) (b : ℕ) (more : List ℕ) → HasNoEnd bo
 line_front body [] b more h e = tt
 line_front [] (x ∷ front) b more h e = absurd (none front b more cc)
   where
-  none : (front : List ℕ) (b : ℕ) (more : List ℕ) → [] ≡ front ++ b ∷ more → ⊥
-  none [] b more i = cc
-  none (y ∷ front) b more i = cc
+    none : (front : List ℕ) (b : ℕ) (more : List ℕ) → [] ≡ front ++ b ∷ more → ⊥
+    none [] b more i = cc
+    none (y ∷ front) b more i = cc
 line_front (y ∷ body) (x ∷ front) b more h e =
     let head : y ≡ x = cc in
     let tail : body ++ 10 ∷ [] ≡ front ++ b ∷ more = cc in

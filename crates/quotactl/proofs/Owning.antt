@@ -40,10 +40,10 @@ owns_call account account' call answer same sits never = record {
   no_store = (never, tt);
 }
   where
-  by_answer : (a : Answer) → Sits account.opened 0 account.history call a account'.history → account'.history ≡ account.history ++ entries_of 0 ((call, a) ∷ [])
-  by_answer (replied given) s = s.2
-  by_answer store s = s.1
-  by_answer journal_full s = s.1 ∙ sym (append-nil account.history)
+    by_answer : (a : Answer) → Sits account.opened 0 account.history call a account'.history → account'.history ≡ account.history ++ entries_of 0 ((call, a) ∷ [])
+    by_answer (replied given) s = s.2
+    by_answer store s = s.1
+    by_answer journal_full s = s.1 ∙ sym (append-nil account.history)
 
 pub owns_append : (a b c : Book) (log more : List (Call × Answer)) → Owns a b log → Owns b c more → Owns a c (log ++ more)
 owns_append a b c log more first second = record {

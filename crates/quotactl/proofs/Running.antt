@@ -26,36 +26,61 @@ module _ (left left' written written' : Option (List ℕ)) (waiting waiting' : L
   pub serve_sent : (after : After) → TakesRequest left left' waiting waiting' taken taken' at at' account account' text (Ok after) → Appends written written' text
       → ServesRequest left left' written written' waiting waiting' taken taken' at at' account account' (Ok after)
   serve_sent after t appended = record {
-    given = t.given; log = t.log; text = text; hands = t.hands; counts = t.counts; owned = t.owned; appended = appended; served = t.comes;
+    given = t.given;
+    log = t.log;
+    text = text;
+    hands = t.hands;
+    counts = t.counts;
+    owned = t.owned;
+    appended = appended;
+    served = t.comes;
   }
 
   -- a front of it was
   pub serve_cut : (after : After) → TakesRequest left left' waiting waiting' taken taken' at at' account account' text (Ok after) → AppendsPart written written' text
       → ServesRequest left left' written written' waiting waiting' taken taken' at at' account account' (Err WriteFault)
   serve_cut after t part =
-    let x = t.comes.0 in
-    record {
-      given = t.given; log = t.log; text = take part.0 text; hands = t.hands; counts = t.counts; owned = t.owned; appended = part.2;
-      served = inl (record {
-        x = x; unread = waiting'; after = after; exchange = t.comes.1; rest_is = ap (λ l. l ++ waiting') t.comes.2; log_is = t.comes.3;
-        front = (drop part.0 text, sym t.comes.4 ∙ sym (take-append-drop part.0 text));
-      });
-    }
+      let x = t.comes.0 in
+      record {
+        given = t.given;
+        log = t.log;
+        text = take part.0 text;
+        hands = t.hands;
+        counts = t.counts;
+        owned = t.owned;
+        appended = part.2;
+        served = inl (record {
+          x = x;
+          unread = waiting';
+          after = after;
+          exchange = t.comes.1;
+          rest_is = ap (λ l. l ++ waiting') t.comes.2;
+          log_is = t.comes.3;
+          front = (drop part.0 text, sym t.comes.4 ∙ sym (take-append-drop part.0 text));
+        });
+      }
 
   -- nothing was
   pub serve_ended : (end : SessionEnd) → TakesRequest left left' waiting waiting' taken taken' at at' account account' text (Err end)
       → ServesRequest left left' written written waiting waiting' taken taken' at at' account account' (Err end)
   serve_ended end t = record {
-    given = t.given; log = t.log; text = []; hands = t.hands; counts = t.counts; owned = t.owned; appended = Appends-nil written; served = t.comes;
+    given = t.given;
+    log = t.log;
+    text = [];
+    hands = t.hands;
+    counts = t.counts;
+    owned = t.owned;
+    appended = Appends-nil written;
+    served = t.comes;
   }
 
   -- a request has a byte
   pub serve_progress : (after : After) → TakesRequest left left' waiting waiting' taken taken' at at' account account' text (Ok after) → at < at'
   serve_progress after t =
-    let x = t.comes.0 in
-    let byte = some_byte imap imap_filled tt x.bytes x.request t.comes.1.spelled in
-    let sized : length t.given ≡ suc (length byte.1) = ap length (t.comes.2 ∙ byte.2) in
-    omega (arith, t.counts, sized)
+      let x = t.comes.0 in
+      let byte = some_byte imap imap_filled tt x.bytes x.request t.comes.1.spelled in
+      let sized : length t.given ≡ suc (length byte.1) = ap length (t.comes.2 ∙ byte.2) in
+      omega (arith, t.counts, sized)
 
 -- what a session did so far: whole requests, answered, and the session went on after each
 pub record Reached (left left' written written' : Option (List ℕ)) (waiting' : List ℕ) (taken' at' : ℕ) (account account' : Book) : Type 0 where
@@ -98,18 +123,18 @@ module _ (left mid left' written sent written' : Option (List ℕ)) (waiting wai
   pub reached_more : Reached left mid written sent waiting taken at account between → ServesRequest mid left' sent written' waiting waiting' taken taken' at at' between account' (Ok Open)
       → Reached left left' written written' waiting' taken' at' account account'
   reached_more r s =
-    let x = s.served.0 in
-    let bytes : bytes_of r.exchanges ++ s.given ≡ bytes_of (r.exchanges ++ x ∷ []) = ap (λ l. bytes_of r.exchanges ++ l) s.served.2 ∙ sym (bytes_push r.exchanges x) in
-    let log : log_of r.exchanges ++ s.log ≡ log_of (r.exchanges ++ x ∷ []) = ap (λ l. log_of r.exchanges ++ l) s.served.3 ∙ sym (log_push r.exchanges x) in
-    let text : text_of r.exchanges ++ s.text ≡ text_of (r.exchanges ++ x ∷ []) = ap (λ l. text_of r.exchanges ++ l) s.served.4 ∙ sym (text_push r.exchanges x) in
-    record {
-      exchanges = r.exchanges ++ x ∷ [];
-      outlived = exchanges_push r.exchanges x r.outlived s.served.1;
-      hands = subst (Hands left left' [] waiting' 0 taken') bytes (Hands-trans left mid left' [] waiting waiting' 0 taken taken' (bytes_of r.exchanges) s.given r.hands s.hands);
-      counts = s.counts ∙ ap (λ n. n + length s.given) r.counts ∙ sym (length-append (bytes_of r.exchanges) s.given) ∙ ap length bytes;
-      owned = subst (Owns account account') log (owns_append account between account' (log_of r.exchanges) s.log r.owned s.owned);
-      appended = subst (Appends written written') text (Appends-trans written sent written' (text_of r.exchanges) s.text r.appended s.appended);
-    }
+      let x = s.served.0 in
+      let bytes : bytes_of r.exchanges ++ s.given ≡ bytes_of (r.exchanges ++ x ∷ []) = ap (λ l. bytes_of r.exchanges ++ l) s.served.2 ∙ sym (bytes_push r.exchanges x) in
+      let log : log_of r.exchanges ++ s.log ≡ log_of (r.exchanges ++ x ∷ []) = ap (λ l. log_of r.exchanges ++ l) s.served.3 ∙ sym (log_push r.exchanges x) in
+      let text : text_of r.exchanges ++ s.text ≡ text_of (r.exchanges ++ x ∷ []) = ap (λ l. text_of r.exchanges ++ l) s.served.4 ∙ sym (text_push r.exchanges x) in
+      record {
+        exchanges = r.exchanges ++ x ∷ [];
+        outlived = exchanges_push r.exchanges x r.outlived s.served.1;
+        hands = subst (Hands left left' [] waiting' 0 taken') bytes (Hands-trans left mid left' [] waiting waiting' 0 taken taken' (bytes_of r.exchanges) s.given r.hands s.hands);
+        counts = s.counts ∙ ap (λ n. n + length s.given) r.counts ∙ sym (length-append (bytes_of r.exchanges) s.given) ∙ ap length bytes;
+        owned = subst (Owns account account') log (owns_append account between account' (log_of r.exchanges) s.log r.owned s.owned);
+        appended = subst (Appends written written') text (Appends-trans written sent written' (text_of r.exchanges) s.text r.appended s.appended);
+      }
 
   -- the session ends in what follows
   served_by : (end : SessionEnd) → Reached left mid written sent waiting taken at account between → (given : List ℕ) (log : List (Call × Answer)) (text : List ℕ)
@@ -117,21 +142,29 @@ module _ (left mid left' written sent written' : Option (List ℕ)) (waiting wai
       → Ends imap input_limit (IsAtEnd left') tt at (given ++ waiting') log text end
       → IsServed left left' written written' account account' end
   served_by end r given log text hands owned appended within ends =
-    let all = Hands-trans left mid left' [] waiting waiting' 0 taken taken' (bytes_of r.exchanges) given r.hands hands in
-    let parts : all.got ≡ bytes_of r.exchanges ++ (given ++ waiting') = all.joined ∙ append_assoc (bytes_of r.exchanges) given waiting' in
-    record {
-      taken = all.got;
-      log = log_of r.exchanges ++ log;
-      text = text_of r.exchanges ++ text;
-      consumed = all.consumed;
-      appended = Appends-trans written sent written' (text_of r.exchanges) text r.appended appended;
-      owned = owns_append account between account' (log_of r.exchanges) log r.owned owned;
-      worked = record {
-        exchanges = r.exchanges; state = tt; rest = given ++ waiting'; last_log = log; last_text = text;
-        outlived = r.outlived; taken_is = parts; within = omega (arith, all.counted, within); log_is = refl; written_is = refl;
-        ends = subst (λ n. Ends imap input_limit (IsAtEnd left') tt n (given ++ waiting') log text end) r.counts ends;
-      };
-    }
+      let all = Hands-trans left mid left' [] waiting waiting' 0 taken taken' (bytes_of r.exchanges) given r.hands hands in
+      let parts : all.got ≡ bytes_of r.exchanges ++ (given ++ waiting') = all.joined ∙ append_assoc (bytes_of r.exchanges) given waiting' in
+      record {
+        taken = all.got;
+        log = log_of r.exchanges ++ log;
+        text = text_of r.exchanges ++ text;
+        consumed = all.consumed;
+        appended = Appends-trans written sent written' (text_of r.exchanges) text r.appended appended;
+        owned = owns_append account between account' (log_of r.exchanges) log r.owned owned;
+        worked = record {
+          exchanges = r.exchanges;
+          state = tt;
+          rest = given ++ waiting';
+          last_log = log;
+          last_text = text;
+          outlived = r.outlived;
+          taken_is = parts;
+          within = omega (arith, all.counted, within);
+          log_is = refl;
+          written_is = refl;
+          ends = subst (λ n. Ends imap input_limit (IsAtEnd left') tt n (given ++ waiting') log text end) r.counts ends;
+        };
+      }
 
   pub reached_ends : (end : SessionEnd) → Reached left mid written sent waiting taken at account between → ServesRequest mid left' sent written' waiting waiting' taken taken' at at' between account' (Err end)
       → taken' ≤ input_limit → IsServed left left' written written' account account' end
@@ -152,15 +185,24 @@ module _ (left mid left' written sent written' : Option (List ℕ)) (waiting wai
 pub greeted : (left left' written greeted written' : Option (List ℕ)) (account account' : Book) (end : SessionEnd) → Appends written greeted greeting
     → IsServed left left' greeted written' account account' end → IsSession left left' written written' account account' end
 greeted left left' written met written' account account' end hello s = record {
-  taken = s.taken; log = s.log; text = greeting ++ s.text; consumed = s.consumed;
+  taken = s.taken;
+  log = s.log;
+  text = greeting ++ s.text;
+  consumed = s.consumed;
   appended = Appends-trans written met written' greeting s.text hello s.appended;
-  owned = s.owned; session = inl s.worked;
+  owned = s.owned;
+  session = inl s.worked;
 }
 
 -- or a front of it alone
 pub not_greeted : (left written written' : Option (List ℕ)) (account : Book) → AppendsPart written written' greeting → IsSession left left written written' account account WriteFault
 not_greeted left written written' account part = record {
-  taken = []; log = []; text = take part.0 greeting; consumed = Consumes-nil left; appended = part.2; owned = owns_same account;
+  taken = [];
+  log = [];
+  text = take part.0 greeting;
+  consumed = Consumes-nil left;
+  appended = part.2;
+  owned = owns_same account;
   session = inr (refl, refl, refl, (drop part.0 greeting, sym (take-append-drop part.0 greeting)));
 }
 

@@ -27,10 +27,10 @@ use Rattle.quotactl.proofs.Lines.{not_whole, no_end_front, spells_line, spells_l
 pub begun_rest : (given : List ℕ) → IsBegun given max_text → IsRest imap tt given
 begun_rest given begun = rest_of imap imap_filled tt given none
   where
-  none : NoneWhole imap tt given
-  none front more e =
-    let sized : length given ≡ length front + length more = ap length e ∙ length-append front more in
-    not_whole front (no_end_front front more (subst HasNoEnd e begun.0)) (omega (arith, sized, begun.1))
+    none : NoneWhole imap tt given
+    none front more e =
+        let sized : length given ≡ length front + length more = ap length e ∙ length-append front more in
+        not_whole front (no_end_front front more (subst HasNoEnd e begun.0)) (omega (arith, sized, begun.1))
 
 begun_waits : (given : List ℕ) → IsBegun given max_text → Waits imap tt (given ++ []) [] []
 begun_waits given begun = subst (λ l. Waits imap tt l [] []) (sym (append-nil given)) (record { less = begun_rest given begun; no_calls = refl; prompted = refl })
@@ -40,30 +40,56 @@ module _ (left left' : Option (List ℕ)) (waiting waiting' : List ℕ) (taken t
   pub take_answered : (account' : Book) (text : List ℕ) (after : After) → Answered account account' given text after
       → TakesRequest left left' waiting waiting' taken taken' at at' account account' text (Ok after)
   take_answered account' text after a = record {
-    given = given; log = a.x.log; hands = hands; counts = counts; owned = a.owned;
+    given = given;
+    log = a.x.log;
+    hands = hands;
+    counts = counts;
+    owned = a.owned;
     comes = (a.x, a.exchange, sym a.bytes_is, refl, sym a.text_is);
   }
 
   pub take_abandoned : (account' : Book) (text : List ℕ) → IsLine given → length given ≤ max_text → Abandoned account account' given
       → TakesRequest left left' waiting waiting' taken taken' at at' account account' text (Err NoMemory)
   take_abandoned account' text line le a = record {
-    given = given; log = a.log; hands = hands; counts = counts; owned = a.owned;
+    given = given;
+    log = a.log;
+    hands = hands;
+    counts = counts;
+    owned = a.owned;
     comes = record {
-      come = given; unread = waiting'; coming = inr (line_request (command_in true given), spells_line given line le); rest_is = refl; prompted = refl; begun = a.begun;
+      come = given;
+      unread = waiting';
+      coming = inr (line_request (command_in true given), spells_line given line le);
+      rest_is = refl;
+      prompted = refl;
+      begun = a.begun;
     };
   }
 
   pub take_long : (text : List ℕ) → HasNoEnd given × (length given ≡ max_text) → text ≡ too_long_text
       → TakesRequest left left' waiting waiting' taken taken' at at' account account text (Ok Closing)
   take_long text long e = record {
-    given = given; log = []; hands = hands; counts = counts; owned = owns_same account;
-    comes = (record { bytes = given; request = too_long; log = []; text = text },
-        record { answer = text; spelled = spells_long given long.0 long.1; worked = (e, refl); written = refl }, refl, refl, refl);
+    given = given;
+    log = [];
+    hands = hands;
+    counts = counts;
+    owned = owns_same account;
+    comes = (
+      record { bytes = given; request = too_long; log = []; text = text },
+      record { answer = text; spelled = spells_long given long.0 long.1; worked = (e, refl); written = refl },
+      refl,
+      refl,
+      refl,
+    );
   }
 
   pub take_long_abandoned : (text : List ℕ) → HasNoEnd given × (length given ≡ max_text) → TakesRequest left left' waiting waiting' taken taken' at at' account account text (Err NoMemory)
   take_long_abandoned text long = record {
-    given = given; log = []; hands = hands; counts = counts; owned = owns_same account;
+    given = given;
+    log = [];
+    hands = hands;
+    counts = counts;
+    owned = owns_same account;
     comes = record { come = given; unread = waiting'; coming = inr (too_long, spells_long given long.0 long.1); rest_is = refl; prompted = refl; begun = inl refl };
   }
 
@@ -83,25 +109,29 @@ module _ (left left' : Option (List ℕ)) (waiting waiting' : List ℕ) (taken t
       → (◌≡◌ {A = Result LineEnd FeedEnd} (Err end) (Err FeedNoMemory) → IsBegun given max_text × (waiting' ≢ []))
       → TakesRequest left left' waiting waiting' taken taken' at at' account account text (Err own)
   take_ended text end come own is e all below full ended memory = record {
-    given = given; log = []; hands = hands; counts = counts; owned = owns_same account;
+    given = given;
+    log = [];
+    hands = hands;
+    counts = counts;
+    owned = owns_same account;
     comes = subst (λ f. Ends imap input_limit (IsAtEnd left') tt at (given ++ waiting') [] [] f) (sym is) (by_end end below full ended memory);
   }
     where
-    by_end : (f : FeedEnd) → ((◌≡◌ {A = Result LineEnd FeedEnd} (Err f) (Err Fault) ⊎ (◌≡◌ {A = Result LineEnd FeedEnd} (Err f) (Err Ended))) → IsBegun given max_text × (waiting' ≡ []) × (taken' < input_limit))
-        → (◌≡◌ {A = Result LineEnd FeedEnd} (Err f) (Err Limit) → IsBegun given max_text × (waiting' ≡ []) × (taken' ≡ input_limit))
-        → (◌≡◌ {A = Result LineEnd FeedEnd} (Err f) (Err Ended) → IsAtEnd left')
-        → (◌≡◌ {A = Result LineEnd FeedEnd} (Err f) (Err FeedNoMemory) → IsBegun given max_text × (waiting' ≢ []))
-        → Ends imap input_limit (IsAtEnd left') tt at (given ++ waiting') [] [] (end_at f at come)
-    by_end Fault b l n m = let h = b (inl refl) in subst (λ w. Ends imap input_limit (IsAtEnd left') tt at (given ++ w) [] [] (end_at Fault at come)) (sym h.1) (begun_waits given h.0)
-    by_end Ended b l n m =
-        let h = b (inr refl) in
-        let none : length waiting' ≡ 0 = ap length h.1 in
-        subst (λ w. Ends imap input_limit (IsAtEnd left') tt at (given ++ w) [] [] (end_at Ended at come)) (sym h.1) (ended_ends come e h.0 (omega (arith, all, h.2, none)) (n refl))
-    by_end Limit b l n m =
-        let h = l refl in
-        let none : length waiting' ≡ 0 = ap length h.1 in
-        let same : length (given ++ []) ≡ length given = ap length (append-nil given) in
-        subst (λ w. Ends imap input_limit (IsAtEnd left') tt at (given ++ w) [] [] (end_at Limit at come)) (sym h.1) (omega (arith, all, counts, h.2, none, same), begun_waits given h.0)
-    by_end FeedNoMemory b l n m =
-        let h = m refl in
-        record { come = given; unread = waiting'; coming = inl (begun_rest given h.0); rest_is = refl; prompted = refl; begun = inl refl }
+      by_end : (f : FeedEnd) → ((◌≡◌ {A = Result LineEnd FeedEnd} (Err f) (Err Fault) ⊎ (◌≡◌ {A = Result LineEnd FeedEnd} (Err f) (Err Ended))) → IsBegun given max_text × (waiting' ≡ []) × (taken' < input_limit))
+          → (◌≡◌ {A = Result LineEnd FeedEnd} (Err f) (Err Limit) → IsBegun given max_text × (waiting' ≡ []) × (taken' ≡ input_limit))
+          → (◌≡◌ {A = Result LineEnd FeedEnd} (Err f) (Err Ended) → IsAtEnd left')
+          → (◌≡◌ {A = Result LineEnd FeedEnd} (Err f) (Err FeedNoMemory) → IsBegun given max_text × (waiting' ≢ []))
+          → Ends imap input_limit (IsAtEnd left') tt at (given ++ waiting') [] [] (end_at f at come)
+      by_end Fault b l n m = let h = b (inl refl) in subst (λ w. Ends imap input_limit (IsAtEnd left') tt at (given ++ w) [] [] (end_at Fault at come)) (sym h.1) (begun_waits given h.0)
+      by_end Ended b l n m =
+          let h = b (inr refl) in
+          let none : length waiting' ≡ 0 = ap length h.1 in
+          subst (λ w. Ends imap input_limit (IsAtEnd left') tt at (given ++ w) [] [] (end_at Ended at come)) (sym h.1) (ended_ends come e h.0 (omega (arith, all, h.2, none)) (n refl))
+      by_end Limit b l n m =
+          let h = l refl in
+          let none : length waiting' ≡ 0 = ap length h.1 in
+          let same : length (given ++ []) ≡ length given = ap length (append-nil given) in
+          subst (λ w. Ends imap input_limit (IsAtEnd left') tt at (given ++ w) [] [] (end_at Limit at come)) (sym h.1) (omega (arith, all, counts, h.2, none, same), begun_waits given h.0)
+      by_end FeedNoMemory b l n m =
+          let h = m refl in
+          record { come = given; unread = waiting'; coming = inl (begun_rest given h.0); rest_is = refl; prompted = refl; begun = inl refl }

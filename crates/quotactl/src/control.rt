@@ -14,7 +14,8 @@ use std::alloc::Global;
 use wire_io::{Failed, SessionEnd, Sink, Source, send};
 
 /// What answers words that are of no form.
-const USAGE: &[u8] = b"usage: quotactl session N | imap [ACCOUNT] | jmap | policy | recalc ACCOUNT | check | workload N\n";
+const USAGE: &[u8] =
+    b"usage: quotactl session N | imap [ACCOUNT] | jmap | policy | recalc ACCOUNT | check | workload N\n";
 
 /// The exit status of the program after a session.
 fn status(end: SessionEnd) -> u8
@@ -86,7 +87,12 @@ fn run<S: Source, O: Sink>(alloc: Global, units: u64, source: &mut S, sink: &mut
 /// The words are those after the program's name. `session N`, with N from 1 to 8796093022207 in decimal digits with no
 /// leading zero, is a session of IMAP for the owner of an account with N units of storage of 1024 octets. Any other words
 /// are answered with the usage line and status 1.
-pub fn control<S: Source, O: Sink>(alloc: Global, words: &[String], source: &mut S, sink: &mut O) -> u8
+pub fn control<S: Source, O: Sink>(
+    alloc: Global,
+    words: &[String],
+    source: &mut S,
+    sink: &mut O,
+) -> u8
     // What the words say is done, or they are of no form and the usage line says so.
     ensures controls { Controls (map string_bytes words.now) (S.left source.old) (S.left source.new) (O.written sink.old) (O.written sink.new) result }
 

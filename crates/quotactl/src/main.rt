@@ -35,3 +35,6 @@ fn main(rt: HostRuntime) -> ExitCode {
     let mut sink = StdSink::new(io::writer(&rt));
     ExitCode::from(control(rt.alloc(), words.as_slice(), &mut source, &mut sink))
 }
+
+#[cfg(test)]
+mod tests;

@@ -39,7 +39,11 @@ fn answer_quota(
             Err(_) => Err(NoMemory),
         },
         Err(StepError::Store) => unreachable!(),
-        Err(StepError::JournalFull { .. }) => match push_tagged(text, tag, b"NO [LIMIT] Journal full") {
+        Err(StepError::JournalFull { .. }) => match push_tagged(
+            text,
+            tag,
+            b"NO [LIMIT] Journal full",
+        ) {
             Ok(()) => Ok(()),
             Err(_) => Err(NoMemory),
         },
@@ -48,7 +52,12 @@ fn answer_quota(
 }
 
 /// Makes what answers a line, with the calls that it asks for, and says what the session does after it.
-fn answer_line(alloc: Global, account: &mut PlainAccount, line: &[u8], text: &mut Vec<u8>) -> Result<After, NoMemory>
+fn answer_line(
+    alloc: Global,
+    account: &mut PlainAccount,
+    line: &[u8],
+    text: &mut Vec<u8>,
+) -> Result<After, NoMemory>
     requires line { IsLine line.now }
     requires short { length line.now ≤ max_text }
     requires empty { text.old.items ≡ [] }
@@ -56,7 +65,13 @@ fn answer_line(alloc: Global, account: &mut PlainAccount, line: &[u8], text: &mu
     ensures err { OnErr result (Abandoned account.old account.new line.now) }
 {
     match read_tagged(alloc, line, true) {
-        Ok((command, length)) => match answer_command(alloc, account, command, &line[..length], text) {
+        Ok((command, length)) => match answer_command(
+            alloc,
+            account,
+            command,
+            &line[..length],
+            text,
+        ) {
             Ok(after) => Ok(after),
             Err(NoMemory) => Err(NoMemory),
         },
@@ -176,7 +191,12 @@ fn serve_request<S: Source, O: Sink>(
 }
 
 /// Serves request after request to the session's end.
-fn serve_all<S: Source, O: Sink>(alloc: Global, account: &mut PlainAccount, feed: &mut Feed<'_, S>, sink: &mut O) -> SessionEnd
+fn serve_all<S: Source, O: Sink>(
+    alloc: Global,
+    account: &mut PlainAccount,
+    feed: &mut Feed<'_, S>,
+    sink: &mut O,
+) -> SessionEnd
     requires limit { limit_of feed.old ≡ input_limit }
     requires empty { waiting_of feed.old ≡ [] }
     requires untaken { taken_of feed.old ≡ 0 }
@@ -203,7 +223,12 @@ fn serve_all<S: Source, O: Sink>(alloc: Global, account: &mut PlainAccount, feed
 /// Serves a session to its end: IMAP for the account's owner, over the bytes of the source, into the sink.
 ///
 /// At most 1073741824 bytes are taken.
-pub fn run_session<S: Source, O: Sink>(alloc: Global, account: &mut PlainAccount, source: &mut S, sink: &mut O) -> SessionEnd
+pub fn run_session<S: Source, O: Sink>(
+    alloc: Global,
+    account: &mut PlainAccount,
+    source: &mut S,
+    sink: &mut O,
+) -> SessionEnd
     // What is written answers what is read, each reply being the account machine's at its call's place in the one history.
     ensures session { IsSession (S.left source.old) (S.left source.new) (O.written sink.old) (O.written sink.new) account.old account.new result }
 

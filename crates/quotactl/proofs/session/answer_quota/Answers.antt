@@ -8,21 +8,25 @@ use Rattle.quotactl.proofs.session.answer_quota.Goals as goal
 
 pub returns-in-Ok-push_quota-clause-ok : goal.returns-in-Ok-push_quota-clause-ok
 returns-in-Ok-push_quota-clause-ok c =
-    let answer = replied c.in-Ok.reply in
-    (answer, c.in-Ok-push_quota.ensures ∙ ap (λ l. l ++ quota_text c.args.tag.now answer) c.requires,
-        owns_call c.args.account.now c.serve.new.self (Quota c.args.root) answer c.in-Ok.ensures.opened c.in-Ok.ensures.serves (replied_never c.in-Ok.reply))
+    let answer = replied c.in-Ok.reply in (
+      answer,
+      c.in-Ok-push_quota.ensures ∙ ap (λ l. l ++ quota_text c.args.tag.now answer) c.requires,
+      owns_call c.args.account.now c.serve.new.self (Quota c.args.root) answer c.in-Ok.ensures.opened c.in-Ok.ensures.serves (replied_never c.in-Ok.reply),
+    )
 
 pub returns-in-Err-clause-err : goal.returns-in-Err-clause-err
 returns-in-Err-clause-err c =
     let answer = replied c.in-Ok.reply in
     leaves_called c.args.account.now c.serve.new.self c.args.root answer
-        (owns_call c.args.account.now c.serve.new.self (Quota c.args.root) answer c.in-Ok.ensures.opened c.in-Ok.ensures.serves (replied_never c.in-Ok.reply))
+    (owns_call c.args.account.now c.serve.new.self (Quota c.args.root) answer c.in-Ok.ensures.opened c.in-Ok.ensures.serves (replied_never c.in-Ok.reply))
 
 pub returns-in-Ok-push_tagged-clause-ok : goal.returns-in-Ok-push_tagged-clause-ok
 returns-in-Ok-push_tagged-clause-ok c =
     let answer = journal_full in
     let account = c.args.account.now in
     let full : Serves account.opened 0 account.history (Quota c.args.root) (Err (JournalFull c.in-Err-JournalFull.field-0-0)) c.serve.new.self.history =
-        subst (λ e. Serves account.opened 0 account.history (Quota c.args.root) (Err e) c.serve.new.self.history) c.in-Err-JournalFull.field-0-is c.in-Err-JournalFull.ensures.serves in
-    (answer, c.in-Ok-push_tagged.ensures ∙ ap (λ l. l ++ quota_text c.args.tag.now answer) c.requires,
-        owns_call c.args.account.now c.serve.new.self (Quota c.args.root) answer c.in-Err-JournalFull.ensures.opened full.1 full_never)
+    subst (λ e. Serves account.opened 0 account.history (Quota c.args.root) (Err e) c.serve.new.self.history) c.in-Err-JournalFull.field-0-is c.in-Err-JournalFull.ensures.serves in (
+      answer,
+      c.in-Ok-push_tagged.ensures ∙ ap (λ l. l ++ quota_text c.args.tag.now answer) c.requires,
+      owns_call c.args.account.now c.serve.new.self (Quota c.args.root) answer c.in-Err-JournalFull.ensures.opened full.1 full_never,
+    )

@@ -15,10 +15,10 @@ returns-clause-session g c =
     let left = g.S.Source.left in
     let kept : c.source-1.given.0 ≡ source_of c.serve_all.new.feed = search rules in
     session_of (left c.args.source.now) (left (source_of c.in-Ok.feed)) (left (source_of c.serve_all.new.feed)) (left c.source-1.given.0)
-        (g.O.Sink.written c.args.sink.now) (g.O.Sink.written c.serve_all.new.sink) c.args.account.now c.serve_all.new.account c.serve_all.result
-        (ap left c.in-Ok.ensures.source) (ap left kept)
-        (greeted (left (source_of c.in-Ok.feed)) (left (source_of c.serve_all.new.feed)) (g.O.Sink.written c.args.sink.now) (g.O.Sink.written c.send.new.sink) (g.O.Sink.written c.serve_all.new.sink)
-            c.args.account.now c.serve_all.new.account c.serve_all.result c.in_default.ensures.sent c.serve_all.ensures.served)
+    (g.O.Sink.written c.args.sink.now) (g.O.Sink.written c.serve_all.new.sink) c.args.account.now c.serve_all.new.account c.serve_all.result
+    (ap left c.in-Ok.ensures.source) (ap left kept)
+    (greeted (left (source_of c.in-Ok.feed)) (left (source_of c.serve_all.new.feed)) (g.O.Sink.written c.args.sink.now) (g.O.Sink.written c.send.new.sink) (g.O.Sink.written c.serve_all.new.sink)
+    c.args.account.now c.serve_all.new.account c.serve_all.result c.in_default.ensures.sent c.serve_all.ensures.served)
 
 pub returns-clause-decided : goal.returns-clause-decided
 returns-clause-decided g c =
@@ -27,9 +27,9 @@ returns-clause-decided g c =
     let read : c.serve_all.result ≡ ReadFault → Rose (g.S.Source.faults c.args.source.now) (g.S.Source.faults c.source-1.given.0) = search rules in
     let write : c.serve_all.result ≡ WriteFault → Rose (g.O.Sink.faults c.args.sink.now) (g.O.Sink.faults c.serve_all.new.sink) = search rules in
     let session : IsSession (left c.args.source.now) (left c.source-1.given.0) (g.O.Sink.written c.args.sink.now) (g.O.Sink.written c.serve_all.new.sink) c.args.account.now c.serve_all.new.account c.serve_all.result =
-        session_of (left c.args.source.now) (left (source_of c.in-Ok.feed)) (left (source_of c.serve_all.new.feed)) (left c.source-1.given.0)
-        (g.O.Sink.written c.args.sink.now) (g.O.Sink.written c.serve_all.new.sink) c.args.account.now c.serve_all.new.account c.serve_all.result
-        (ap left c.in-Ok.ensures.source) (ap left kept)
-        (greeted (left (source_of c.in-Ok.feed)) (left (source_of c.serve_all.new.feed)) (g.O.Sink.written c.args.sink.now) (g.O.Sink.written c.send.new.sink) (g.O.Sink.written c.serve_all.new.sink)
-            c.args.account.now c.serve_all.new.account c.serve_all.result c.in_default.ensures.sent c.serve_all.ensures.served) in
+    session_of (left c.args.source.now) (left (source_of c.in-Ok.feed)) (left (source_of c.serve_all.new.feed)) (left c.source-1.given.0)
+    (g.O.Sink.written c.args.sink.now) (g.O.Sink.written c.serve_all.new.sink) c.args.account.now c.serve_all.new.account c.serve_all.result
+    (ap left c.in-Ok.ensures.source) (ap left kept)
+    (greeted (left (source_of c.in-Ok.feed)) (left (source_of c.serve_all.new.feed)) (g.O.Sink.written c.args.sink.now) (g.O.Sink.written c.send.new.sink) (g.O.Sink.written c.serve_all.new.sink)
+    c.args.account.now c.serve_all.new.account c.serve_all.result c.in_default.ensures.sent c.serve_all.ensures.served) in
     decided_by (left c.args.source.now) (left c.source-1.given.0) (g.O.Sink.written c.args.sink.now) (g.O.Sink.written c.serve_all.new.sink) c.args.account.now c.serve_all.new.account c.serve_all.result _ _ session read write
