@@ -1,23 +1,19 @@
 -- Lines as requests.
-use Rattle.std.proofs.Common.{◌==◌, ◌≡◌, ◌≢◌, ◌+◌, ◌<◌, ◌≤◌, ◌⊎◌, ℕ, suc, Bool, true, false, ◌||◌, eqb, leb, List, [], ◌∷◌, ◌++◌, length, take, Option, Some, None, Result, Ok, Err, OnErr, IfOk, refl, sym, ap, ◌∙◌, subst, append_assoc, append-nil, inl, inr, arith, length-append, if◌then◌else◌}
+use Rattle.std.proofs.Common.{◌==◌, ◌≡◌, ◌+◌, ◌<◌, ◌≤◌, ℕ, Bool, true, false, ◌||◌, eqb, leb, List, [], ◌∷◌, ◌++◌, length, take, Some, None, refl, sym, ap, ◌∙◌, subst, inl, inr, arith, length-append, if◌then◌else◌}
 use Rattle.std.specs.List.{list_any}
-use Rattle.std.proofs.lemmas.Bool.{eq-eqb}
 use Rattle.std.proofs.lemmas.Bool.Decides.{nat_tests, eqb_tells}
 use Rattle.wire_io.specs.declared.ends.After.{After}
 use Rattle.wire_io.specs.declared.ends.After.TheVariants.{Open, Closing}
 use Rattle.wire_io.specs.Lines.{HasNoEnd, IsLine}
-use Rattle.wire_io.specs.Work.{Does, Begins}
-use Rattle.wire_io.specs.Protocol.{Spells, IsFirst, IsRest, IsFilled}
-use Rattle.wire_io.specs.Session.{Exchange, IsExchange, Waits}
-use Rattle.imap_grammar.specs.Grammar.{Tagged}
+use Rattle.wire_io.specs.Work.{Does}
+use Rattle.wire_io.specs.Protocol.{Spells, IsFilled}
 use Rattle.imap_grammar.specs.Commands.{command_in}
 use Rattle.imap_grammar.specs.declared.command.Command.{Command}
-use Rattle.account_core.specs.declared.calls.Call.{Call}
-use Rattle.account_core.specs.History.{Answer, Book}
-use Rattle.quotactl.specs.Imap.{Request, command, not_built, too_long, max_text, line_request, whole, work, work_of, imap}
+use Rattle.account_core.specs.History.{Book}
+use Rattle.quotactl.specs.Imap.{command, not_built, too_long, max_text, line_request, whole, work_of, imap}
 use Rattle.imap_grammar.specs.declared.command.Command.TheVariants.{Logout}
-use Rattle.quotactl.specs.Texts.{not_built_text, too_long_text, logout_text}
-use Rattle.quotactl.specs.Serving.{Owns, Answered, Abandoned, AnswersCommand, LeavesCommand}
+use Rattle.quotactl.specs.Texts.{not_built_text, logout_text}
+use Rattle.quotactl.specs.Serving.{Answered, Abandoned, AnswersCommand, LeavesCommand}
 use Rattle.quotactl.proofs.Owning.{owns_same}
 
 -- a byte is a line's end

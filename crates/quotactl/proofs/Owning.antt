@@ -1,11 +1,11 @@
 -- The calls of the one owner, one after another.
-use Rattle.std.proofs.Common.{true, false, ◌≡◌, ◌≢◌, ◌≤◌, ◌⊎◌, ℕ, List, [], ◌∷◌, ◌++◌, length, refl, sym, ap, ◌∙◌, subst, append_assoc, append-nil, inl, inr}
+use Rattle.std.proofs.Common.{true, false, ◌≡◌, ◌≢◌, ℕ, List, [], ◌∷◌, ◌++◌, refl, sym, ap, ◌∙◌, subst, append_assoc, append-nil, inl, inr}
 use Rattle.account_core.specs.declared.calls.Call.{Call}
 use Rattle.account_core.specs.declared.calls.Call.TheVariants.{Quota}
 use Rattle.account_core.specs.declared.calls.Reply.{Reply}
 use Rattle.account_core.specs.History.{Answer, replied, store, journal_full, Book, Sits, AreNone, Logged, entry_of}
 use Rattle.account_core.proofs.Logging.{logged_append, logged_call, logged_nothing, none_both}
-use Rattle.quotactl.specs.Serving.{Owns, NeverStore, entries_of, LeavesQuota, AnswersQuota}
+use Rattle.quotactl.specs.Serving.{Owns, NeverStore, entries_of, LeavesQuota}
 
 pub replied_never : (given : Reply) → replied given ≢ store
 replied_never given e = cc

@@ -1,23 +1,22 @@
 -- A session, request by request.
-use Rattle.std.proofs.Common.{true, ◌≡◌, ◌≢◌, ◌+◌, ◌-◌, ◌<◌, ◌≤◌, ◌⊎◌, ℕ, suc, zero, List, [], ◌∷◌, ◌++◌, length, take, drop, Option, Some, None, IfSome, Result, Ok, Err, refl, sym, ap, ◌∙◌, subst, append_assoc, append-nil, inl, inr, arith, length-append, take-append-drop}
-use Rattle.std.specs.Io.KnownBytes.{Consumes, Appends, Keeps, IsAtEnd}
-use Rattle.std.proofs.KnownBytes.{Appends-nil, Appends-trans, Appends-kept, Consumes-nil}
+use Rattle.std.proofs.Common.{◌≡◌, ◌+◌, ◌<◌, ◌≤◌, ◌⊎◌, ℕ, suc, List, [], ◌∷◌, ◌++◌, length, take, drop, Option, Some, None, IfSome, Ok, Err, refl, sym, ap, ◌∙◌, subst, append_assoc, append-nil, inl, inr, arith, length-append, take-append-drop}
+use Rattle.std.specs.Io.KnownBytes.{Appends, IsAtEnd}
+use Rattle.std.proofs.KnownBytes.{Appends-nil, Appends-trans, Consumes-nil}
 use Rattle.wire_io.specs.declared.ends.After.{After}
 use Rattle.wire_io.specs.declared.ends.After.TheVariants.{Open, Closing, Stopping}
 use Rattle.wire_io.specs.declared.ends.SessionEnd.{SessionEnd}
 use Rattle.wire_io.specs.declared.ends.SessionEnd.TheVariants.{Closed, Stopped, ReadFault, WriteFault, NoMemory}
 use Rattle.wire_io.specs.Feeding.{Hands}
 use Rattle.wire_io.specs.Sending.{AppendsPart}
-use Rattle.wire_io.specs.Protocol.{Spells}
-use Rattle.wire_io.specs.Session.{Exchange, bytes_of, log_of, text_of, IsExchange, Exchanges, Ends, IsWorked, Session, CutInText, Finishes, IsFront, InputEnds}
-use Rattle.wire_io.proofs.FeedLemmas.{Hands-nil, Hands-trans, length-Hands}
+use Rattle.wire_io.specs.Session.{Exchange, bytes_of, log_of, text_of, IsExchange, Exchanges, Ends, Finishes, InputEnds}
+use Rattle.wire_io.proofs.FeedLemmas.{Hands-nil, Hands-trans}
 use Rattle.wire_io.proofs.Cuts.{some_byte}
 use Rattle.wire_io.proofs.Deciding.{end_decided}
 use Rattle.account_core.specs.declared.calls.Call.{Call}
 use Rattle.account_core.specs.History.{Answer, Book}
 use Rattle.quotactl.specs.Imap.{Request, imap}
 use Rattle.quotactl.specs.Texts.{greeting}
-use Rattle.quotactl.specs.Serving.{input_limit, Owns, TakesRequest, Served, ServesRequest, IsServed, IsSession}
+use Rattle.quotactl.specs.Serving.{input_limit, Owns, TakesRequest, ServesRequest, IsServed, IsSession}
 use Rattle.quotactl.proofs.Owning.{owns_same, owns_append}
 use Rattle.quotactl.proofs.Lines.{imap_filled}
 

@@ -1,9 +1,9 @@
 -- What comes of the bytes that were taken for a request.
-use Rattle.std.proofs.Common.{true, ◌≡◌, ◌≢◌, ◌+◌, ◌<◌, ◌≤◌, ◌⊎◌, ◌↔◌, ℕ, suc, zero, List, [], ◌∷◌, ◌++◌, length, Option, Some, None, Result, Ok, Err, refl, sym, ap, ◌∙◌, subst, append_assoc, append-nil, inl, inr, arith, length-append}
+use Rattle.std.proofs.Common.{true, ◌≡◌, ◌≢◌, ◌+◌, ◌<◌, ◌≤◌, ◌⊎◌, ℕ, suc, zero, List, [], ◌++◌, length, Option, Result, Ok, Err, refl, sym, ap, ◌∙◌, subst, append-nil, inl, inr, arith, length-append}
 use Rattle.std.proofs.lemmas.List.{nil_from_length}
 use Rattle.std.specs.Io.KnownBytes.{IsAtEnd}
 use Rattle.wire_io.specs.declared.ends.After.{After}
-use Rattle.wire_io.specs.declared.ends.After.TheVariants.{Open, Closing}
+use Rattle.wire_io.specs.declared.ends.After.TheVariants.{Closing}
 use Rattle.wire_io.specs.declared.ends.LineEnd.{LineEnd}
 use Rattle.wire_io.specs.declared.ends.SessionEnd.{SessionEnd}
 use Rattle.wire_io.specs.declared.ends.SessionEnd.TheVariants.{NoMemory}
@@ -11,15 +11,14 @@ use Rattle.wire_io.specs.declared.ends.FeedEnd.{FeedEnd}
 use Rattle.wire_io.specs.declared.ends.FeedEnd.TheVariants.{Fault, Ended, Limit, NoMemory as FeedNoMemory}
 use Rattle.wire_io.specs.Lines.{HasNoEnd, IsLine}
 use Rattle.wire_io.specs.Feeding.{Hands, IsBegun}
-use Rattle.wire_io.specs.Protocol.{Spells, IsRest}
-use Rattle.wire_io.specs.Session.{Exchange, IsExchange, Ends, Waits, GivesUp}
+use Rattle.wire_io.specs.Protocol.{IsRest}
+use Rattle.wire_io.specs.Session.{Ends, Waits}
 use Rattle.wire_io.proofs.Cuts.{rest_of, NoneWhole}
 use Rattle.imap_grammar.specs.Commands.{command_in}
-use Rattle.account_core.specs.declared.calls.Call.{Call}
-use Rattle.account_core.specs.History.{Answer, Book}
-use Rattle.quotactl.specs.Imap.{Request, too_long, max_text, line_request, whole, imap}
+use Rattle.account_core.specs.History.{Book}
+use Rattle.quotactl.specs.Imap.{too_long, max_text, line_request, imap}
 use Rattle.quotactl.specs.Texts.{too_long_text}
-use Rattle.quotactl.specs.Serving.{input_limit, Owns, Answered, Abandoned, Comes, TakesRequest, end_at}
+use Rattle.quotactl.specs.Serving.{input_limit, Answered, Abandoned, TakesRequest, end_at}
 use Rattle.quotactl.proofs.Owning.{owns_same}
 use Rattle.quotactl.proofs.Lines.{not_whole, no_end_front, spells_line, spells_long, imap_filled}
 

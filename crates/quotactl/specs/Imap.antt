@@ -1,5 +1,5 @@
 -- IMAP as a protocol: what a whole request is, what is done for it, and what answers it.
-use Rattle.std.specs.Prelude.{ℕ, Bool, true, ◌==◌, nat_le, if◌then◌else◌, List, [], length, Option, Some, None}
+use Rattle.std.specs.Prelude.{ℕ, true, ◌==◌, nat_le, if◌then◌else◌, List, [], length, Option, Some, None}
 use Rattle.std.specs.List.{list_any}
 use Rattle.wire_io.specs.Work.{Work, ask, say}
 use Rattle.wire_io.specs.Protocol.{Protocol}

@@ -1,5 +1,5 @@
 -- The account with its one owner, as a world that the owner's calls alone change.
-use Rattle.std.specs.Prelude.{ℕ, Bool, false, nat_le, if◌then◌else◌, List, [], ◌∷◌, ◌++◌, length}
+use Rattle.std.specs.Prelude.{Bool, false, nat_le, if◌then◌else◌, [], ◌∷◌, ◌++◌, length}
 use Rattle.wire_io.specs.Transcript.{Answers}
 use Rattle.account_core.specs.declared.calls.Call.{Call}
 use Rattle.account_core.specs.History.{Answer, replied, journal_full, Book, reply, entry_of}

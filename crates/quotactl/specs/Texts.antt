@@ -1,10 +1,8 @@
 -- The lines that an IMAP session writes: RFC 9208, section 5.1, for QUOTA; the texts after OK, NO, BAD and BYE are this project's own.
-use Rattle.std.specs.Prelude.{ℕ, List, [], ◌∷◌, ◌++◌, codes, Option, None, Some}
+use Rattle.std.specs.Prelude.{ℕ, List, [], ◌++◌, codes, Option, None, Some}
 use Rattle.std.specs.Fmt.{decimal}
 use Rattle.quota_units.specs.Units.{units_of}
-use Rattle.quota_units.specs.Limiting.{LimitNumbers}
 use Rattle.account_core.specs.declared.calls.RootRow.{RootRow}
-use Rattle.account_core.specs.declared.calls.Reply.{Reply}
 use Rattle.account_core.specs.declared.calls.Reply.TheVariants.{NoRoot, Quota}
 use Rattle.account_core.specs.History.{Answer, replied, store, journal_full}
 

@@ -1,4 +1,4 @@
-use Rattle.std.proofs.Common.{◌++◌, ap, ◌∙◌, sym}
+use Rattle.std.proofs.Common.{◌++◌, ap, ◌∙◌}
 use Rattle.quotactl.specs.Texts.{not_built_text}
 use Rattle.quotactl.proofs.Lines.{line_command, leave_command, line_not_built, abandoned_nothing}
 use Rattle.quotactl.proofs.session.answer_line.Goals as goal

@@ -1,9 +1,9 @@
-use Rattle.std.proofs.Common.{arith, ◌<◌, ◌≡◌, ◌≤◌, ◌++◌, length, ap, ◌∙◌, sym, subst, Ok, Err, refl}
+use Rattle.std.proofs.Common.{arith, ◌<◌, ◌≡◌, ◌++◌, length, ap, ◌∙◌, sym, subst, Ok, refl}
 use Rattle.wire_io.specs.Feeding.{gained}
-use Rattle.wire_io.specs.Feeds.{limit_of, handed_of, taken_of}
+use Rattle.wire_io.specs.Feeds.{limit_of, taken_of}
 use Rattle.quotactl.specs.Texts.{too_long_text}
-use Rattle.quotactl.specs.Serving.{Abandoned, TakesRequest, input_limit, end_at}
-use Rattle.quotactl.proofs.Taking.{take_answered, take_abandoned, take_long, take_long_abandoned, take_ended}
+use Rattle.quotactl.specs.Serving.{Abandoned, input_limit, end_at}
+use Rattle.quotactl.proofs.Taking.{take_abandoned, take_long, take_long_abandoned, take_ended}
 use Rattle.quotactl.proofs.session.take_request.Goals as goal
 
 pub returns-in-Err-answer_line-clause-takes : goal.returns-in-Err-answer_line-clause-takes
