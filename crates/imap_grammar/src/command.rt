@@ -12,7 +12,7 @@ use thiserror::Error;
 /// A command without its tag.
 #[derive(Debug, Drop)]
 pub enum Command {
-    /// `GETQUOTA ROOT`: the root's usage and limits (RFC 9208, section 4.1.2).
+    /// `GETQUOTA ROOT`: the root's usage and limits (RFC 9208, on GETQUOTA).
     GetQuota { root: Name },
     /// `LOGOUT` (RFC 9051, section 6.1.3).
     Logout,

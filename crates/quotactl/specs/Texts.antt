@@ -1,4 +1,4 @@
--- The lines that an IMAP session writes: RFC 9208, section 5.1, for QUOTA; the texts after OK, NO, BAD and BYE are this project's own.
+-- The lines that an IMAP session writes: RFC 9208, on the QUOTA response; the texts after OK, NO, BAD and BYE are this project's own.
 use Rattle.std.specs.Prelude.{ℕ, List, [], ◌++◌, codes, Option, None, Some}
 use Rattle.std.specs.Fmt.{decimal}
 use Rattle.quota_units.specs.Units.{units_of}
