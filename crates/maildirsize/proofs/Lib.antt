@@ -6,3 +6,4 @@ pub mod SumLineLemmas
 pub mod MemberLemmas
 pub mod SumsLemmas
 pub mod ReadingLemmas
+pub mod WrittenLemmas
