@@ -1,5 +1,5 @@
 -- One more leading digit, in a number that is cut.
-use Rattle.std.proofs.Common.{◌≡◌, ℕ, ◌+◌, ◌-◌, ◌*◌, ◌<◌, ◌≤◌, min, List, length, take, drop, get_or, Bool, true, false, arith, ap, ◌∙◌, sym}
+use Rattle.std.proofs.Common.{◌≡◌, ℕ, ◌+◌, ◌-◌, ◌*◌, ◌<◌, ◌≤◌, min, List, length, take, drop, get_or, true, arith, ap, ◌∙◌, sym}
 use Rattle.std.specs.List.{prefix_len}
 use Rattle.std.specs.Char.{is_ascii_digit, digit_value}
 use Rattle.std.specs.Str.Parse.{digits_value}
@@ -8,7 +8,7 @@ use Rattle.std.proofs.lemmas.Int.Digits.{digits_value_more}
 use Rattle.std.proofs.lemmas.List.Sums.{prefix_len-drop_yes}
 use Rattle.std.proofs.lemmas.Str.{digit_value_digit}
 
-digit_range : (c : ℕ) → is_ascii_digit c ≡ true → (48 ≤ c) × (c ≤ 57)
+pub digit_range : (c : ℕ) → is_ascii_digit c ≡ true → (48 ≤ c) × (c ≤ 57)
 digit_range c h = grind (arith, nat_tests)
 
 cut_step : (v d c : ℕ) → d ≤ 9 → min (min v c * 10 + d) c ≡ min (v * 10 + d) c
@@ -23,6 +23,9 @@ digit_step bs i lt digit =
     let v = digit_value_digit (get_or bs i 0) r in
     let value : digit_value (get_or bs i 0) ≡ get_or bs i 0 - 48 = omega arith in
     let more = digits_value_more 10 bs i lt ∙ ap (λ n. digits_value 10 (take i bs) * 10 + n) value in
-    let small : get_or bs i 0 - 48 ≤ 9 = omega arith in
-    (cut_step (digits_value 10 (take i bs)) (get_or bs i 0 - 48) 1000000000000000000 small ∙ ap (λ n. min n 1000000000000000000) (sym more),
-     prefix_len-drop_yes is_ascii_digit bs i 0 lt digit, r.0, r.1)
+    let small : get_or bs i 0 - 48 ≤ 9 = omega arith in (
+      cut_step (digits_value 10 (take i bs)) (get_or bs i 0 - 48) 1000000000000000000 small ∙ ap (λ n. min n 1000000000000000000) (sym more),
+      prefix_len-drop_yes is_ascii_digit bs i 0 lt digit,
+      r.0,
+      r.1,
+    )

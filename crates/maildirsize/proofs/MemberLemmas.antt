@@ -1,5 +1,5 @@
 -- The members of a definition, one after the other.
-use Rattle.std.proofs.Common.{◌≡◌, ℕ, ◌+◌, ◌-◌, ◌<◌, ◌≤◌, ◌==◌, min, List, [], ◌∷◌, ◌++◌, Bool, true, false, cond, not, ◌&&◌, ◌||◌, length, take, reverse, Option, Some, None, is_some, IfSome, refl, ap, ◌∙◌, sym, ⊎_elim, arith, nat_lt, length-append, zero-add, add_assoc}
+use Rattle.std.proofs.Common.{◌≡◌, ℕ, ◌+◌, ◌-◌, ◌<◌, ◌≤◌, ◌==◌, min, List, [], ◌∷◌, ◌++◌, Bool, true, false, cond, ◌&&◌, length, take, reverse, Option, Some, None, is_some, IfSome, refl, ap, ◌∙◌, sym, ⊎_elim, arith, nat_lt, length-append}
 use Rattle.std.specs.List.{take_while, slice_split, list_all, find, filter_map, cons_option, prefix_len, sum_by}
 use Rattle.std.specs.Option.{option_and_then}
 use Rattle.std.specs.Char.{is_ascii_digit, is_ascii_alphabetic}
@@ -8,17 +8,17 @@ use Rattle.std.proofs.Math.Numerals.{one-add}
 use Rattle.std.proofs.lemmas.Bool.{cases_Bool, cond-true, cond-false, and_from, and_left, and_right, and_parts, lt-ltb, le-ltb, false≢true}
 use Rattle.std.proofs.lemmas.Bool.Decides.{nat_tests}
 use Rattle.std.proofs.lemmas.List.{append_assoc, reverse-append, take_at}
-use Rattle.std.proofs.lemmas.List.Folds.{list_all-append, prefix_len-append}
+use Rattle.std.proofs.lemmas.List.Folds.{list_all-append}
 use Rattle.std.proofs.lemmas.List.Elements.{filter_map-append}
 use Rattle.std.proofs.lemmas.List.Sums.{sum_by_push}
 use Rattle.quota_units.specs.Limiting.{LimitNumbers, IsLimit}
 use Rattle.maildirsize.specs.declared.definition.Member.{Member}
-use Rattle.maildirsize.specs.Fronts.{behind, begins}
+use Rattle.maildirsize.specs.Fronts.{skip_while, begins_with}
 use Rattle.maildirsize.specs.Lines.{is_line_feed, is_in_line, first_line}
 use Rattle.maildirsize.specs.Definition.{is_comma, limit_of, member_of, member_in, is_member, limit_named, limits_named, limits_in, wrong_text_in, is_in_member, member_texts_at}
-use Rattle.maildirsize.proofs.FrontLemmas.{take_yes, take_no, behind_yes, behind_no, behind_none, behind_wider, begins-behind, front_none, front-append-behind}
+use Rattle.maildirsize.proofs.FrontLemmas.{take_yes, take_no, skip_yes, skip_no, skip_none, skip_wider, begins_with-skip_while, front_none}
 use Rattle.maildirsize.proofs.SplitLemmas.{first_part, parts_behind}
-use Rattle.maildirsize.proofs.WordLemmas.{length-front}
+use Rattle.maildirsize.proofs.WordLemmas.{length-take_while}
 
 -- a front of p within a wider front of q
 module _ (p q : ℕ → Bool) (wider : (x : ℕ) → p x ≡ true → q x ≡ true) where
@@ -27,19 +27,19 @@ module _ (p q : ℕ → Bool) (wider : (x : ℕ) → p x ≡ true → q x ≡ tr
   front_within (x ∷ xs) = ⊎_elim
       (λ (h : p x ≡ true). ap (take_while p) (take_yes q x xs (wider x h)) ∙ take_yes p x (take_while q xs) h ∙ ap (λ ys. x ∷ ys) (front_within xs) ∙ sym (take_yes p x xs h))
       (λ (h : p x ≡ false). ⊎_elim
-        (λ (k : q x ≡ true). ap (take_while p) (take_yes q x xs k) ∙ take_no p x (take_while q xs) h ∙ sym (take_no p x xs h))
-        (λ (k : q x ≡ false). ap (take_while p) (take_no q x xs k) ∙ sym (take_no p x xs h))
-        (cases_Bool (q x)))
+      (λ (k : q x ≡ true). ap (take_while p) (take_yes q x xs k) ∙ take_no p x (take_while q xs) h ∙ sym (take_no p x xs h))
+      (λ (k : q x ≡ false). ap (take_while p) (take_no q x xs k) ∙ sym (take_no p x xs h))
+      (cases_Bool (q x)))
       (cases_Bool (p x))
 
-  pub behind_within : (xs : List ℕ) → behind p (take_while q xs) ≡ take_while q (behind p xs)
-  behind_within [] = refl
-  behind_within (x ∷ xs) = ⊎_elim
-      (λ (h : p x ≡ true). ap (behind p) (take_yes q x xs (wider x h)) ∙ behind_yes p x (take_while q xs) h ∙ behind_within xs ∙ ap (take_while q) (sym (behind_yes p x xs h)))
+  pub skip_within : (xs : List ℕ) → skip_while p (take_while q xs) ≡ take_while q (skip_while p xs)
+  skip_within [] = refl
+  skip_within (x ∷ xs) = ⊎_elim
+      (λ (h : p x ≡ true). ap (skip_while p) (take_yes q x xs (wider x h)) ∙ skip_yes p x (take_while q xs) h ∙ skip_within xs ∙ ap (take_while q) (sym (skip_yes p x xs h)))
       (λ (h : p x ≡ false). ⊎_elim
-        (λ (k : q x ≡ true). ap (behind p) (take_yes q x xs k) ∙ behind_no p x (take_while q xs) h ∙ sym (ap (take_while q) (behind_no p x xs h) ∙ take_yes q x xs k))
-        (λ (k : q x ≡ false). ap (behind p) (take_no q x xs k) ∙ sym (ap (take_while q) (behind_no p x xs h) ∙ take_no q x xs k))
-        (cases_Bool (q x)))
+      (λ (k : q x ≡ true). ap (skip_while p) (take_yes q x xs k) ∙ skip_no p x (take_while q xs) h ∙ sym (ap (take_while q) (skip_no p x xs h) ∙ take_yes q x xs k))
+      (λ (k : q x ≡ false). ap (skip_while p) (take_no q x xs k) ∙ sym (ap (take_while q) (skip_no p x xs h) ∙ take_no q x xs k))
+      (cases_Bool (q x)))
       (cases_Bool (p x))
 
 digits_in_members : (c : ℕ) → is_ascii_digit c ≡ true → is_in_member c ≡ true
@@ -49,15 +49,15 @@ letters_in_members : (c : ℕ) → is_ascii_alphabetic c ≡ true → is_in_memb
 letters_in_members c h = grind (arith, nat_tests)
 
 -- the member at the front, by its digits and what stands behind them
-member_front : (bs : List ℕ) → member_in (take_while is_in_member bs) ≡ member_of (take_while is_ascii_digit bs) (take_while is_in_member (behind is_ascii_digit bs))
+member_front : (bs : List ℕ) → member_in (take_while is_in_member bs) ≡ member_of (take_while is_ascii_digit bs) (take_while is_in_member (skip_while is_ascii_digit bs))
 member_front bs =
-    ap (λ ds. member_of ds (behind is_ascii_digit (take_while is_in_member bs))) (front_within is_ascii_digit is_in_member digits_in_members bs)
-    ∙ ap (member_of (take_while is_ascii_digit bs)) (behind_within is_ascii_digit is_in_member digits_in_members bs)
+    ap (λ ds. member_of ds (skip_while is_ascii_digit (take_while is_in_member bs))) (front_within is_ascii_digit is_in_member digits_in_members bs)
+    ∙ ap (member_of (take_while is_ascii_digit bs)) (skip_within is_ascii_digit is_in_member digits_in_members bs)
 
 member_letter : (ds : List ℕ) (x : ℕ) → (nat_lt 0 (length ds) && is_ascii_alphabetic x) ≡ false → member_of ds (x ∷ []) ≡ None
 member_letter ds x h = cond-false (nat_lt 0 (length ds) && is_ascii_alphabetic x) (Some (record { letter = x; limit = limit_of (digits_value 10 ds) })) None h
 
-pub no_letter : (bs : List ℕ) → behind is_ascii_digit bs ≡ [] → member_in (take_while is_in_member bs) ≡ None
+pub no_letter : (bs : List ℕ) → skip_while is_ascii_digit bs ≡ [] → member_in (take_while is_in_member bs) ≡ None
 no_letter bs h = member_front bs ∙ ap (λ r. member_of (take_while is_ascii_digit bs) (take_while is_in_member r)) h
 
 wrong_start : (ds : List ℕ) (x : ℕ) (ys : List ℕ) → (nat_lt 0 (length ds) && is_ascii_alphabetic x) ≡ false → member_of ds (x ∷ ys) ≡ None
@@ -70,18 +70,18 @@ wrong_front ds x next h = ⊎_elim
     (λ (k : is_in_member x ≡ false). ap (member_of ds) (take_no is_in_member x next k))
     (cases_Bool (is_in_member x))
 
-two_letters : (ds : List ℕ) (x : ℕ) (next : List ℕ) → begins is_in_member next ≡ true → member_of ds (x ∷ take_while is_in_member next) ≡ None
+two_letters : (ds : List ℕ) (x : ℕ) (next : List ℕ) → begins_with is_in_member next ≡ true → member_of ds (x ∷ take_while is_in_member next) ≡ None
 two_letters ds x [] h = absurd (false≢true h)
 two_letters ds x (y ∷ next) h = ap (λ ys. member_of ds (x ∷ ys)) (take_yes is_in_member y next h)
 
-long_front : (ds : List ℕ) (x : ℕ) (next : List ℕ) → begins is_in_member next ≡ true → member_of ds (take_while is_in_member (x ∷ next)) ≡ None
+long_front : (ds : List ℕ) (x : ℕ) (next : List ℕ) → begins_with is_in_member next ≡ true → member_of ds (take_while is_in_member (x ∷ next)) ≡ None
 long_front ds x next h = ⊎_elim
     (λ (k : is_in_member x ≡ true). ap (member_of ds) (take_yes is_in_member x next k) ∙ two_letters ds x next h)
     (λ (k : is_in_member x ≡ false). ap (member_of ds) (take_no is_in_member x next k))
     (cases_Bool (is_in_member x))
 
 -- a member whose digits have this letter and these bytes behind them
-module _ (bs : List ℕ) (x : ℕ) (next : List ℕ) (found : behind is_ascii_digit bs ≡ x ∷ next) where
+module _ (bs : List ℕ) (x : ℕ) (next : List ℕ) (found : skip_while is_ascii_digit bs ≡ x ∷ next) where
   here : member_in (take_while is_in_member bs) ≡ member_of (take_while is_ascii_digit bs) (take_while is_in_member (x ∷ next))
   here = member_front bs ∙ ap (λ r. member_of (take_while is_ascii_digit bs) (take_while is_in_member r)) found
 
@@ -93,20 +93,20 @@ module _ (bs : List ℕ) (x : ℕ) (next : List ℕ) (found : behind is_ascii_di
   pub wrong_letter : is_ascii_alphabetic x ≡ false → member_in (take_while is_in_member bs) ≡ None
   wrong_letter h = here ∙ wrong_front (take_while is_ascii_digit bs) x next (and_right (nat_lt 0 (length (take_while is_ascii_digit bs))) (is_ascii_alphabetic x) h)
 
-  pub more_letters : begins is_in_member next ≡ true → member_in (take_while is_in_member bs) ≡ None
+  pub more_letters : begins_with is_in_member next ≡ true → member_in (take_while is_in_member bs) ≡ None
   more_letters h = here ∙ long_front (take_while is_ascii_digit bs) x next h
 
-  module _ (some : 0 < length (take_while is_ascii_digit bs)) (letter : is_ascii_alphabetic x ≡ true) (ends : begins is_in_member next ≡ false) where
+  module _ (some : 0 < length (take_while is_ascii_digit bs)) (letter : is_ascii_alphabetic x ≡ true) (ends : begins_with is_in_member next ≡ false) where
     pub member_read : member_in (take_while is_in_member bs) ≡ Some (record { letter = x; limit = limit_of (digits_value 10 (take_while is_ascii_digit bs)) })
     member_read =
         let ds = take_while is_ascii_digit bs in
         here ∙ ap (member_of ds) (take_yes is_in_member x next (letters_in_members x letter) ∙ ap (λ ys. x ∷ ys) (front_none is_in_member next ends))
         ∙ cond-true (nat_lt 0 (length ds) && is_ascii_alphabetic x) (Some (record { letter = x; limit = limit_of (digits_value 10 ds) })) None
-            (and_from (nat_lt 0 (length ds)) (is_ascii_alphabetic x) (lt-ltb 0 (length ds) some) letter)
+        (and_from (nat_lt 0 (length ds)) (is_ascii_alphabetic x) (lt-ltb 0 (length ds) some) letter)
 
-    pub member_behind : next ≡ behind is_in_member bs
-    member_behind = sym (behind_wider is_ascii_digit is_in_member digits_in_members bs ∙ ap (behind is_in_member) found
-        ∙ behind_yes is_in_member x next (letters_in_members x letter) ∙ behind_none is_in_member next ends)
+    pub member_behind : next ≡ skip_while is_in_member bs
+    member_behind = sym (skip_wider is_ascii_digit is_in_member digits_in_members bs ∙ ap (skip_while is_in_member) found
+        ∙ skip_yes is_in_member x next (letters_in_members x letter) ∙ skip_none is_in_member next ends)
 
 -- the cut of the digits' number changes no limit
 pub limit_cut : (v : ℕ) → limit_of (min v 1000000000000000000) ≡ limit_of v
@@ -130,10 +130,7 @@ pub record ReadTo (bytes rest : List ℕ) (octets count : Option ℕ) : Type 0 w
   pub octets_are : octets ≡ limit_named 83 (filter_map member_in done)
   pub count_is : count ≡ limit_named 67 (filter_map member_in done)
   pub place : length bytes ≡ sum_by (λ text. length text + 1) done + length rest
-  pub line : behind is_in_line bytes ≡ behind is_in_line rest
-
-pub none_read : (bytes : List ℕ) → ReadTo bytes bytes None None
-none_read bytes = record { done = []; texts = refl; right = refl; octets_are = refl; count_is = refl; place = sym (zero-add (length bytes)); line = refl }
+  pub line : skip_while is_in_line bytes ≡ skip_while is_in_line rest
 
 comma_apart : (x : ℕ) → is_line_feed x ≡ true → is_comma x ≡ false
 comma_apart x h = grind (arith, nat_tests)
@@ -142,7 +139,7 @@ member_in_line : (x : ℕ) → is_in_member x ≡ true → is_in_line x ≡ true
 member_in_line x h = grind (arith, nat_tests)
 
 -- the texts are the first, and those behind it
-texts_first : (rest : List ℕ) → member_texts_at rest ≡ take_while is_in_member rest ∷ parts_behind is_comma (behind is_in_member rest)
+texts_first : (rest : List ℕ) → member_texts_at rest ≡ take_while is_in_member rest ∷ parts_behind is_comma (skip_while is_in_member rest)
 texts_first rest = first_part is_comma comma_apart rest
 
 is_member_from : (text : List ℕ) (m : Member) → member_in text ≡ Some m → is_member text ≡ true
@@ -163,11 +160,11 @@ limits_push letter done text m o h e =
 
 module _ (bytes rest : List ℕ) (octets count : Option ℕ) (read : ReadTo bytes rest octets count) where
   -- one member more, up to a comma
-  pub read_more : (m : Member) (more : List ℕ) → member_in (take_while is_in_member rest) ≡ Some m → behind is_in_member rest ≡ 44 ∷ more
+  pub read_more : (m : Member) (more : List ℕ) → member_in (take_while is_in_member rest) ≡ Some m → skip_while is_in_member rest ≡ 44 ∷ more
       → ReadTo bytes more (cond (m.letter == 83) m.limit octets) (cond (m.letter == 67) m.limit count)
   read_more m more h e =
       let text = take_while is_in_member rest in
-      let lengths = length-front is_in_member rest in
+      let lengths = length-take_while is_in_member rest in
       let behind_length = ap length e in
       let pushed = sum_by_push (λ (t : List ℕ). length t + 1) read.done text in
       record {
@@ -177,19 +174,19 @@ module _ (bytes rest : List ℕ) (octets count : Option ℕ) (read : ReadTo byte
         octets_are = limits_push 83 read.done text m octets h read.octets_are;
         count_is = limits_push 67 read.done text m count h read.count_is;
         place = omega (arith, read.place, pushed, lengths, behind_length);
-        line = read.line ∙ behind_wider is_in_member is_in_line member_in_line rest ∙ ap (behind is_in_line) e ∙ behind_yes is_in_line 44 more refl;
+        line = read.line ∙ skip_wider is_in_member is_in_line member_in_line rest ∙ ap (skip_while is_in_line) e ∙ skip_yes is_in_line 44 more refl;
       }
 
-  no_comma : (next : List ℕ) → begins is_comma next ≡ false → parts_behind is_comma next ≡ []
+  no_comma : (next : List ℕ) → begins_with is_comma next ≡ false → parts_behind is_comma next ≡ []
   no_comma [] h = refl
   no_comma (x ∷ next) h = cond-false (is_comma x) (slice_split is_comma (first_line next)) [] h
 
-  line_end : (next : List ℕ) → begins is_in_member next ≡ false → begins is_comma next ≡ false → begins is_in_line next ≡ false
+  line_end : (next : List ℕ) → begins_with is_in_member next ≡ false → begins_with is_comma next ≡ false → begins_with is_in_line next ≡ false
   line_end [] h k = refl
   line_end (x ∷ next) h k = grind (arith, nat_tests)
 
   -- the last member, up to the line's end
-  module _ (m : Member) (next : List ℕ) (h : member_in (take_while is_in_member rest) ≡ Some m) (e : next ≡ behind is_in_member rest) (ends : begins is_comma next ≡ false) where
+  module _ (m : Member) (next : List ℕ) (h : member_in (take_while is_in_member rest) ≡ Some m) (e : next ≡ skip_while is_in_member rest) (ends : begins_with is_comma next ≡ false) where
     pub read_last : limits_in (member_texts_at bytes) ≡ Some (record { octets = cond (m.letter == 83) m.limit octets; count = cond (m.letter == 67) m.limit count })
     read_last =
         let text = take_while is_in_member rest in
@@ -198,14 +195,14 @@ module _ (bytes rest : List ℕ) (octets count : Option ℕ) (read : ReadTo byte
         ap limits_in texts
         ∙ cond-true (list_all is_member all) (Some (limits_named (filter_map member_in all))) None (right_push read.done text m read.right h)
         ∙ ap Some (sym (ap (λ (o : Option ℕ). two o (cond (m.letter == 67) m.limit count)) (limits_push 83 read.done text m octets h read.octets_are)
-          ∙ ap (λ (o : Option ℕ). two (limit_named 83 (filter_map member_in all)) o) (limits_push 67 read.done text m count h read.count_is)))
+        ∙ ap (λ (o : Option ℕ). two (limit_named 83 (filter_map member_in all)) o) (limits_push 67 read.done text m count h read.count_is)))
       where
         two : Option ℕ → Option ℕ → LimitNumbers
         two o c = record { octets = o; count = c }
 
-    pub line_behind : next ≡ behind is_in_line bytes
-    line_behind = sym (read.line ∙ behind_wider is_in_member is_in_line member_in_line rest ∙ ap (behind is_in_line) (sym e)
-        ∙ behind_none is_in_line next (line_end next (ap (begins is_in_member) e ∙ begins-behind is_in_member rest) ends))
+    pub line_behind : next ≡ skip_while is_in_line bytes
+    line_behind = sym (read.line ∙ skip_wider is_in_member is_in_line member_in_line rest ∙ ap (skip_while is_in_line) (sym e)
+        ∙ skip_none is_in_line next (line_end next (ap (begins_with is_in_member) e ∙ begins_with-skip_while is_in_member rest) ends))
 
 abbrev pub member_with : ℕ → Option ℕ → Member
 member_with letter limit = record { letter = letter; limit = limit }
@@ -232,7 +229,7 @@ pub read_wrong : (bytes rest : List ℕ) (octets count : Option ℕ) → ReadTo 
     → wrong_text_in (member_texts_at bytes) ≡ Some (length bytes - length rest)
 read_wrong bytes rest octets count read h =
     let text = take_while is_in_member rest in
-    let others = parts_behind is_comma (behind is_in_member rest) in
+    let others = parts_behind is_comma (skip_while is_in_member rest) in
     let place : sum_by (λ (t : List ℕ). length t + 1) read.done ≡ length bytes - length rest = omega (arith, read.place) in
     ap wrong_text_in (read.texts ∙ ap (λ ts. read.done ++ ts) (texts_first rest))
     ∙ wrong_at read.done text others read.right (ap is_some h) ∙ ap Some place

@@ -1,7 +1,7 @@
 -- The sum lines of a ledger, one after the other.
-use Rattle.std.proofs.Common.{◌≡◌, ℕ, ◌+◌, ◌-◌, ◌*◌, ◌<◌, ◌≤◌, ℤ, pos, ◌+ℤ◌, unsigned_abs, to_z, of_z, w64, FitsSigned, List, [], ◌∷◌, ◌++◌, Bool, true, false, cond, ◌&&◌, ◌||◌, length, map, Option, Some, None, is_some, refl, ap, ◌∙◌, sym, ⊎_elim, arith, nat_lt, length-append, zero-add}
-use Rattle.std.proofs.Math.Numerals.{one-add, add-one}
-use Rattle.std.specs.List.{slice_split, onto_first, list_all, list_any, after_first, prefix_len, filter_map, cons_option, fold}
+use Rattle.std.proofs.Common.{◌≡◌, ℕ, ◌+◌, ◌-◌, ◌*◌, ◌<◌, ◌≤◌, ℤ, pos, ◌+ℤ◌, unsigned_abs, to_z, of_z, w64, FitsSigned, List, [], ◌∷◌, ◌++◌, Bool, true, false, cond, ◌||◌, length, map, Option, Some, None, is_some, refl, ap, ◌∙◌, sym, ⊎_elim, arith, nat_lt, length-append}
+use Rattle.std.proofs.Math.Numerals.{one-add}
+use Rattle.std.specs.List.{onto_first, list_all, list_any, after_first, prefix_len, cons_option}
 use Rattle.std.specs.Option.{option_map, option_or}
 use Rattle.std.proofs.lemmas.Bool.{cases_Bool, cond-true, cond-false, and_from, and_parts, or_parts, lt-ltb, le-ltb, false≢true}
 use Rattle.std.proofs.lemmas.Option.{some_pair_parts}
@@ -11,12 +11,11 @@ use Rattle.std.proofs.lemmas.List.{append_assoc, append-nil, map-append, nil_fro
 use Rattle.std.proofs.lemmas.List.Folds.{list_all-append}
 use Rattle.std.proofs.lemmas.List.Elements.{filter_map-append}
 use Rattle.std.proofs.lemmas.List.Sums.{fold-append}
-use Rattle.maildirsize.specs.declared.ledger_text.LedgerFault.{LedgerFault}
 use Rattle.maildirsize.specs.declared.ledger_text.LedgerFault.TheVariants.{BadLine, Torn}
 use Rattle.maildirsize.specs.Lines.{is_line_feed, parts_of, all_but_last, last_of, lines_in, rest_in, first_line}
 use Rattle.maildirsize.specs.Sums.{Pair, total_of}
 use Rattle.maildirsize.specs.SumLine.{pair_in, is_sum_line, pairs_in, sum_line_at}
-use Rattle.maildirsize.specs.Reading.{bad_line, torn, summary}
+use Rattle.maildirsize.specs.Reading.{line_fault, rest_fault, summary}
 use Rattle.maildirsize.specs.declared.ledger_text.LedgerText.{LedgerText}
 use Rattle.quota_units.specs.Limiting.{LimitNumbers}
 use Rattle.maildirsize.proofs.SplitLemmas.{line_more, line_over, split_yes, split_no, after-cons}
@@ -32,17 +31,17 @@ pub parts_first : (bs : List ℕ) → parts_of bs ≡ first_line bs ∷ cond (li
 parts_first [] = refl
 parts_first (x ∷ xs) = ⊎_elim
     (λ (h : is_line_feed x ≡ true).
-      let any = or_true (is_line_feed x) (list_any is_line_feed xs) h in
-      let rest = after-cons x xs ∙ cond-true (is_line_feed x) xs (after_first is_line_feed xs) h in
-      split_yes is_line_feed x xs h ∙ sym (ap (λ l. l ∷ cond (list_any is_line_feed (x ∷ xs)) (parts_of (after_first is_line_feed (x ∷ xs))) []) (line_over x xs h)
-        ∙ ap (λ b. [] ∷ cond b (parts_of (after_first is_line_feed (x ∷ xs))) []) any ∙ ap (λ r. [] ∷ parts_of r) rest))
+    let any = or_true (is_line_feed x) (list_any is_line_feed xs) h in
+    let rest = after-cons x xs ∙ cond-true (is_line_feed x) xs (after_first is_line_feed xs) h in
+    split_yes is_line_feed x xs h ∙ sym (ap (λ l. l ∷ cond (list_any is_line_feed (x ∷ xs)) (parts_of (after_first is_line_feed (x ∷ xs))) []) (line_over x xs h)
+    ∙ ap (λ b. [] ∷ cond b (parts_of (after_first is_line_feed (x ∷ xs))) []) any ∙ ap (λ r. [] ∷ parts_of r) rest))
     (λ (h : is_line_feed x ≡ false).
-      let any = or_false (is_line_feed x) (list_any is_line_feed xs) h in
-      let rest = after-cons x xs ∙ cond-false (is_line_feed x) xs (after_first is_line_feed xs) h in
-      split_no is_line_feed x xs h ∙ ap (onto_first x) (parts_first xs)
-      ∙ sym (ap (λ l. l ∷ cond (list_any is_line_feed (x ∷ xs)) (parts_of (after_first is_line_feed (x ∷ xs))) []) (line_more x xs h)
-        ∙ ap (λ b. (x ∷ first_line xs) ∷ cond b (parts_of (after_first is_line_feed (x ∷ xs))) []) any
-        ∙ ap (λ r. (x ∷ first_line xs) ∷ cond (list_any is_line_feed xs) (parts_of r) []) rest))
+    let any = or_false (is_line_feed x) (list_any is_line_feed xs) h in
+    let rest = after-cons x xs ∙ cond-false (is_line_feed x) xs (after_first is_line_feed xs) h in
+    split_no is_line_feed x xs h ∙ ap (onto_first x) (parts_first xs)
+    ∙ sym (ap (λ l. l ∷ cond (list_any is_line_feed (x ∷ xs)) (parts_of (after_first is_line_feed (x ∷ xs))) []) (line_more x xs h)
+    ∙ ap (λ b. (x ∷ first_line xs) ∷ cond b (parts_of (after_first is_line_feed (x ∷ xs))) []) any
+    ∙ ap (λ r. (x ∷ first_line xs) ∷ cond (list_any is_line_feed xs) (parts_of r) []) rest))
     (cases_Bool (is_line_feed x))
 
 pub parts_ended : (bs : List ℕ) → list_any is_line_feed bs ≡ true → parts_of bs ≡ first_line bs ∷ parts_of (after_first is_line_feed bs)
@@ -60,14 +59,14 @@ pub line_length : (bs : List ℕ) → list_any is_line_feed bs ≡ true → leng
 line_length [] h = absurd (false≢true h)
 line_length (x ∷ xs) h = ⊎_elim
     (λ (k : is_line_feed x ≡ true).
-      let line = ap length (line_over x xs k) in
-      let rest = ap length (after-cons x xs ∙ cond-true (is_line_feed x) xs (after_first is_line_feed xs) k) in
-      omega (arith, line, rest))
+    let line = ap length (line_over x xs k) in
+    let rest = ap length (after-cons x xs ∙ cond-true (is_line_feed x) xs (after_first is_line_feed xs) k) in
+    omega (arith, line, rest))
     (λ (k : is_line_feed x ≡ false).
-      let line = ap length (line_more x xs k) in
-      let rest = ap length (after-cons x xs ∙ cond-false (is_line_feed x) xs (after_first is_line_feed xs) k) in
-      let more = line_length xs (sym (or_false (is_line_feed x) (list_any is_line_feed xs) k) ∙ h) in
-      omega (arith, line, rest, more))
+    let line = ap length (line_more x xs k) in
+    let rest = ap length (after-cons x xs ∙ cond-false (is_line_feed x) xs (after_first is_line_feed xs) k) in
+    let more = line_length xs (sym (or_false (is_line_feed x) (list_any is_line_feed xs) k) ∙ h) in
+    omega (arith, line, rest, more))
     (cases_Bool (is_line_feed x))
 
 -- what stands at the end of a list of parts
@@ -95,13 +94,13 @@ lines_wrong (t ∷ done) line others r h =
     let p = and_parts (is_sum_line t) (list_all is_sum_line done) r in
     cond-true (is_sum_line t) (1 + prefix_len is_sum_line (done ++ line ∷ others)) 0 p.0 ∙ ap (λ n. 1 + n) (lines_wrong done line others p.1 h) ∙ one-add (length done)
 
-pub no_bad_line : (done : List (List ℕ)) → list_all is_sum_line done ≡ true → bad_line done ≡ None
+pub no_bad_line : (done : List (List ℕ)) → list_all is_sum_line done ≡ true → line_fault done ≡ None
 no_bad_line done r =
     ap (λ n. cond (nat_lt n (length done)) (Some (BadLine (n + 2))) None) (lines_right done r)
     ∙ cond-false (nat_lt (length done) (length done)) (Some (BadLine (length done + 2))) None (le-ltb (length done) (length done) (omega arith))
 
 bad_line_at : (done : List (List ℕ)) (line : List ℕ) (others : List (List ℕ)) → list_all is_sum_line done ≡ true → is_sum_line line ≡ false
-    → bad_line (done ++ line ∷ others) ≡ Some (BadLine (length done + 2))
+    → line_fault (done ++ line ∷ others) ≡ Some (BadLine (length done + 2))
 bad_line_at done line others r h =
     let all = done ++ line ∷ others in
     let lengths = length-append done (line ∷ others) in
@@ -109,10 +108,7 @@ bad_line_at done line others r h =
     ap (λ n. cond (nat_lt n (length all)) (Some (BadLine (n + 2))) None) (lines_wrong done line others r h)
     ∙ cond-true (nat_lt (length done) (length all)) (Some (BadLine (length done + 2))) None (lt-ltb (length done) (length all) within)
 
-pub not_torn : (len : ℕ) → torn len [] ≡ None
-not_torn len = refl
-
-torn_at : (len : ℕ) (rest : List ℕ) → 0 < length rest → torn len rest ≡ Some (Torn (len - length rest))
+torn_at : (len : ℕ) (rest : List ℕ) → 0 < length rest → rest_fault len rest ≡ Some (Torn (len - length rest))
 torn_at len rest h = cond-true (nat_lt 0 (length rest)) (Some (Torn (len - length rest))) None (lt-ltb 0 (length rest) h)
 
 -- the lines up to a place are sum lines, so many, and add up to this
@@ -124,9 +120,6 @@ pub record SummedTo (bytes rest : List ℕ) (lines : ℕ) (octets count : ℤ) :
   pub pairs : length (pairs_in done) ≡ length done
   pub octets_are : octets ≡ total_of (map (λ (p : Pair). p.octets) (pairs_in done))
   pub count_is : count ≡ total_of (map (λ (p : Pair). p.count) (pairs_in done))
-
-pub none_summed : (bytes : List ℕ) → SummedTo bytes bytes 0 (pos 0) (pos 0)
-none_summed bytes = record { done = []; parts = refl; right = refl; lines_are = refl; pairs = refl; octets_are = refl; count_is = refl }
 
 -- what a line at the front says
 line_taken : (ended : Bool) (after : List ℕ) (o : Option Pair) (pair : Pair) (next : List ℕ)
@@ -166,7 +159,7 @@ module _ (bytes rest : List ℕ) (lines : ℕ) (octets count : ℤ) (read : Summ
       }
 
   -- the next line is no sum line
-  pub sums_wrong : (len : ℕ) → list_any is_line_feed rest ≡ true → sum_line_at rest ≡ None → option_or (bad_line (lines_in bytes)) (torn len (rest_in bytes)) ≡ Some (BadLine (lines + 2))
+  pub sums_wrong : (len : ℕ) → list_any is_line_feed rest ≡ true → sum_line_at rest ≡ None → option_or (line_fault (lines_in bytes)) (rest_fault len (rest_in bytes)) ≡ Some (BadLine (lines + 2))
   sums_wrong len any h =
       let line = first_line rest in
       let none = line_refused (list_any is_line_feed rest) (after_first is_line_feed rest) (pair_in line) h any in
@@ -175,22 +168,22 @@ module _ (bytes rest : List ℕ) (lines : ℕ) (octets count : ℤ) (read : Summ
       let parts = read.parts ∙ ap (λ ps. read.done ++ ps) (parts_ended rest any ∙ ap (λ ps. line ∷ ps) (parts_first after)) in
       let others = cond (list_any is_line_feed after) (parts_of (after_first is_line_feed after)) [] in
       let all = ap all_but_last parts ∙ all_but_last_append read.done line (first_line after ∷ others) in
-      ap (λ ls. option_or (bad_line ls) (torn len (rest_in bytes))) all
-      ∙ ap (λ o. option_or o (torn len (rest_in bytes))) (bad_line_at read.done line (all_but_last (first_line after ∷ others)) read.right (ap is_some none))
+      ap (λ ls. option_or (line_fault ls) (rest_fault len (rest_in bytes))) all
+      ∙ ap (λ o. option_or o (rest_fault len (rest_in bytes))) (bad_line_at read.done line (all_but_last (first_line after ∷ others)) read.right (ap is_some none))
       ∙ ap (λ n. Some (BadLine (n + 2))) (sym read.lines_are)
 
   -- no line feed ends the next line
-  pub sums_torn : (len : ℕ) → list_any is_line_feed rest ≡ false → 0 < length rest → option_or (bad_line (lines_in bytes)) (torn len (rest_in bytes)) ≡ Some (Torn (len - length rest))
+  pub sums_torn : (len : ℕ) → list_any is_line_feed rest ≡ false → 0 < length rest → option_or (line_fault (lines_in bytes)) (rest_fault len (rest_in bytes)) ≡ Some (Torn (len - length rest))
   sums_torn len none some =
       let parts = read.parts ∙ ap (λ ps. read.done ++ ps) (parts_torn rest none) in
       let all = ap all_but_last parts ∙ all_but_last_append read.done rest [] ∙ append-nil read.done in
       let last = ap last_of parts ∙ last_of_append read.done rest [] in
-      ap (λ ls. option_or (bad_line ls) (torn len (rest_in bytes))) all ∙ ap (λ o. option_or o (torn len (rest_in bytes))) (no_bad_line read.done read.right)
-      ∙ ap (torn len) last ∙ torn_at len rest some
+      ap (λ ls. option_or (line_fault ls) (rest_fault len (rest_in bytes))) all ∙ ap (λ o. option_or o (rest_fault len (rest_in bytes))) (no_bad_line read.done read.right)
+      ∙ ap (rest_fault len) last ∙ torn_at len rest some
 
   -- the fault of what is left
   pub sums_fault : (len : ℕ) → sum_line_at rest ≡ None → 0 < length rest
-      → option_or (bad_line (lines_in bytes)) (torn len (rest_in bytes)) ≡ Some (cond (list_any is_line_feed rest) (BadLine (lines + 2)) (Torn (len - length rest)))
+      → option_or (line_fault (lines_in bytes)) (rest_fault len (rest_in bytes)) ≡ Some (cond (list_any is_line_feed rest) (BadLine (lines + 2)) (Torn (len - length rest)))
   sums_fault len h some = ⊎_elim
       (λ (k : list_any is_line_feed rest ≡ true). sums_wrong len k h ∙ ap Some (sym (cond-true (list_any is_line_feed rest) (BadLine (lines + 2)) (Torn (len - length rest)) k)))
       (λ (k : list_any is_line_feed rest ≡ false). sums_torn len k some ∙ ap Some (sym (cond-false (list_any is_line_feed rest) (BadLine (lines + 2)) (Torn (len - length rest)) k)))
@@ -215,10 +208,10 @@ module _ (bytes rest : List ℕ) (lines : ℕ) (octets count : ℤ) (read : Summ
   pub sums_lines : lines_in bytes ≡ read.done
   sums_lines = ap all_but_last parts_over ∙ all_but_last_append read.done [] [] ∙ append-nil read.done
 
-  pub sums_right : (len : ℕ) → option_or (bad_line (lines_in bytes)) (torn len (rest_in bytes)) ≡ None
+  pub sums_right : (len : ℕ) → option_or (line_fault (lines_in bytes)) (rest_fault len (rest_in bytes)) ≡ None
   sums_right len =
-      ap (λ ls. option_or (bad_line ls) (torn len (rest_in bytes))) sums_lines ∙ ap (λ o. option_or o (torn len (rest_in bytes))) (no_bad_line read.done read.right)
-      ∙ ap (torn len) (ap last_of parts_over ∙ last_of_append read.done [] [])
+      ap (λ ls. option_or (line_fault ls) (rest_fault len (rest_in bytes))) sums_lines ∙ ap (λ o. option_or o (rest_fault len (rest_in bytes))) (no_bad_line read.done read.right)
+      ∙ ap (rest_fault len) (ap last_of parts_over ∙ last_of_append read.done [] [])
 
   pub sums_summary : (limits : LimitNumbers) → ◌≡◌ {A = LedgerText} (record { limits = limits; lines = lines; octets = octets; count = count }) (summary limits (pairs_in (lines_in bytes)))
   sums_summary limits =
@@ -241,9 +234,10 @@ added o m f lines small few less e =
     let wide : FitsSigned w128 m = fits_signed_from_abs w128 m (omega arith) in
     let bound = abs_add o m in
     let total : FitsSigned w128 (o +ℤ m) = fits_signed_from_abs w128 (o +ℤ m) (omega (arith, bound)) in
-    let same = e ∙ to_z-of_z w64 m narrow in
-    (ap (λ z. to_z w128 (of_z w128 (o +ℤ to_z w128 (of_z w128 z)))) same ∙ ap (λ z. to_z w128 (of_z w128 (o +ℤ z))) (to_z-of_z w128 m wide) ∙ to_z-of_z w128 (o +ℤ m) total,
-     omega (arith, bound))
+    let same = e ∙ to_z-of_z w64 m narrow in (
+      ap (λ z. to_z w128 (of_z w128 (o +ℤ to_z w128 (of_z w128 z)))) same ∙ ap (λ z. to_z w128 (of_z w128 (o +ℤ z))) (to_z-of_z w128 m wide) ∙ to_z-of_z w128 (o +ℤ m) total,
+      omega (arith, bound),
+    )
 
 pub summed_as : (bytes rest : List ℕ) (lines : ℕ) (a b c d : ℤ) → a ≡ b → c ≡ d → SummedTo bytes rest lines b d → SummedTo bytes rest lines a c
 summed_as bytes rest lines a b c d e f read = rw (e, f) read

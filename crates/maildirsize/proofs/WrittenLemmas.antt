@@ -1,12 +1,11 @@
 -- What is written is read back.
-use Rattle.std.proofs.Common.{◌≡◌, ℕ, suc, ◌+◌, ◌^◌, ◌<◌, ◌≤◌, ◌==◌, min, ℤ, pos, negsuc, neg_ℤ, unsigned_abs, List, [], ◌∷◌, ◌++◌, Bool, true, false, cond, not, ◌&&◌, length, map, Option, Some, None, IfSome, is_some, codes, refl, ap, ◌∙◌, sym, arith, nat_lt, length-append}
+use Rattle.std.proofs.Common.{◌≡◌, ℕ, suc, ◌^◌, ◌<◌, ◌==◌, min, ℤ, pos, negsuc, neg_ℤ, unsigned_abs, List, [], ◌∷◌, ◌++◌, Bool, true, false, cond, not, ◌&&◌, length, map, Option, Some, None, IfSome, is_some, codes, refl, ap, ◌∙◌, sym, arith, nat_lt, length-append}
 use Rattle.std.specs.Fmt.{decimal, signed_decimal}
-use Rattle.std.specs.List.{slice_split, onto_first, list_all, take_while, flat_map, filter, filter_map, cons_option, AllByRecursion}
+use Rattle.std.specs.List.{slice_split, onto_first, list_all, take_while, flat_map, filter, cons_option, AllByRecursion}
 use Rattle.std.specs.Option.{option_map}
 use Rattle.std.specs.Char.{is_ascii_digit, is_ascii_alphabetic, digit_value}
-use Rattle.std.specs.Int.{IsInRange}
 use Rattle.std.specs.Str.Parse.{digits_value, AllDigits}
-use Rattle.std.proofs.lemmas.Bool.{and_from, and_parts, cond-true, cond-false, lt-ltb, ne_eqb, not-true, not_from_false}
+use Rattle.std.proofs.lemmas.Bool.{and_from, and_parts, cond-true, cond-false, lt-ltb, ne_eqb, not-true}
 use Rattle.std.proofs.lemmas.Bool.Decides.{nat_tests}
 use Rattle.std.proofs.lemmas.Fmt.{decimal_is_IsNumeral, length-decimal-le}
 use Rattle.std.proofs.lemmas.Str.Parse.{digit_from_value}
@@ -14,17 +13,18 @@ use Rattle.std.proofs.lemmas.List.{append_assoc, append-nil}
 use Rattle.std.proofs.lemmas.List.Folds.{list_all-append}
 use Rattle.quota_units.specs.Limiting.{LimitNumbers, IsLimit, AreLimits}
 use Rattle.maildirsize.specs.declared.definition.Member.{Member}
-use Rattle.maildirsize.specs.Fronts.{behind}
-use Rattle.maildirsize.specs.Lines.{is_line_feed, is_in_line, parts_of, all_but_last, last_of, lines_in, rest_in}
-use Rattle.maildirsize.specs.Definition.{is_comma, limit_of, member_in, member_of, is_member, members_in, limits_named, limits_in, definition_in}
+use Rattle.maildirsize.specs.Fronts.{skip_while}
+use Rattle.maildirsize.specs.Lines.{is_line_feed, is_in_line, parts_of, all_but_last, last_of}
+use Rattle.maildirsize.specs.Definition.{is_comma, limit_of, member_in, member_of, members_in, limits_named, limits_in, definition_in}
 use Rattle.maildirsize.specs.Sums.{Pair}
 use Rattle.maildirsize.specs.SumLine.{is_space, is_in_word, magnitude_in, integer_in, words_in, pair_of, pair_of_words, pair_in}
-use Rattle.maildirsize.specs.Written.{written_limits, written_definition, written_line, written, IsSmall}
+use Rattle.maildirsize.specs.Written.{written_limits, written_definition, written_line, written_ledger, IsSmall}
 use Rattle.maildirsize.specs.Reading.{Reads}
 use Rattle.maildirsize.specs.Laws.{WrittenReadsBack}
-use Rattle.maildirsize.proofs.FrontLemmas.{take_yes, take_no, behind_yes, behind_no}
+use Rattle.maildirsize.proofs.FrontLemmas.{take_yes, take_no, skip_yes, skip_no}
 use Rattle.maildirsize.proofs.SplitLemmas.{split_yes, split_no}
-use Rattle.maildirsize.proofs.WordLemmas.{digit_range, magnitude_some}
+use Rattle.maildirsize.proofs.DigitSteps.{digit_range}
+use Rattle.maildirsize.proofs.WordLemmas.{magnitude_some}
 use Rattle.maildirsize.proofs.SumsLemmas.{all_but_last_append, last_of_append}
 use Rattle.maildirsize.proofs.ReadingLemmas.{one_reading_lem}
 
@@ -40,12 +40,12 @@ all_wider p q wider [] h = refl
 all_wider p q wider (x ∷ xs) h = let t = and_parts (p x) (list_all p xs) h in all_cons q x xs (wider x t.0) (all_wider p q wider xs t.1)
 
 -- a front that all passes, and what follows it
-front_all : (p : ℕ → Bool) (xs : List ℕ) (y : ℕ) (ys : List ℕ) → list_all p xs ≡ true → p y ≡ false → (take_while p (xs ++ y ∷ ys) ≡ xs) × (behind p (xs ++ y ∷ ys) ≡ y ∷ ys)
-front_all p [] y ys h k = (take_no p y ys k, behind_no p y ys k)
+front_all : (p : ℕ → Bool) (xs : List ℕ) (y : ℕ) (ys : List ℕ) → list_all p xs ≡ true → p y ≡ false → (take_while p (xs ++ y ∷ ys) ≡ xs) × (skip_while p (xs ++ y ∷ ys) ≡ y ∷ ys)
+front_all p [] y ys h k = (take_no p y ys k, skip_no p y ys k)
 front_all p (x ∷ xs) y ys h k =
     let t = and_parts (p x) (list_all p xs) h in
     let more = front_all p xs y ys t.1 k in
-    (take_yes p x (xs ++ y ∷ ys) t.0 ∙ ap (λ zs. x ∷ zs) more.0, behind_yes p x (xs ++ y ∷ ys) t.0 ∙ more.1)
+    (take_yes p x (xs ++ y ∷ ys) t.0 ∙ ap (λ zs. x ∷ zs) more.0, skip_yes p x (xs ++ y ∷ ys) t.0 ∙ more.1)
 
 -- a part without the separator
 split_part : (sep : ℕ → Bool) (xs : List ℕ) (y : ℕ) (ys : List ℕ) → list_all (λ x. not (sep x)) xs ≡ true → sep y ≡ true → slice_split sep (xs ++ y ∷ ys) ≡ xs ∷ slice_split sep ys
@@ -134,8 +134,8 @@ module _ (pair : Pair) (small : IsSmall pair) where
   body_words : words_in (body pair) ≡ signed_decimal pair.octets ∷ signed_decimal pair.count ∷ []
   body_words =
       ap (filter (λ (x : List ℕ). nat_lt 0 (length x)))
-        (split_part is_space (signed_decimal pair.octets) 32 (signed_decimal pair.count) (all_wider is_in_word (λ x. not (is_space x)) word_no_space (signed_decimal pair.octets) octets_word.0) refl
-        ∙ ap (λ ws. signed_decimal pair.octets ∷ ws) (split_last is_space (signed_decimal pair.count) (all_wider is_in_word (λ x. not (is_space x)) word_no_space (signed_decimal pair.count) count_word.0)))
+      (split_part is_space (signed_decimal pair.octets) 32 (signed_decimal pair.count) (all_wider is_in_word (λ x. not (is_space x)) word_no_space (signed_decimal pair.octets) octets_word.0) refl
+      ∙ ap (λ ws. signed_decimal pair.octets ∷ ws) (split_last is_space (signed_decimal pair.count) (all_wider is_in_word (λ x. not (is_space x)) word_no_space (signed_decimal pair.count) count_word.0)))
       ∙ not_empty_two (signed_decimal pair.octets) (signed_decimal pair.count) octets_word.1 count_word.1
 
   pair_back : pair_in (body pair) ≡ Some pair
@@ -188,9 +188,9 @@ module _ (n : ℕ) (limit : IsLimit n) where
   member_back letter other alphabetic =
       let f = front_all is_ascii_digit (decimal n) letter [] (decimal_digits n fits_word) other in
       let some = decimal_some n fits_word in
-      ap (λ ds. member_of ds (behind is_ascii_digit (decimal n ++ letter ∷ []))) f.0 ∙ ap (member_of (decimal n)) f.1
+      ap (λ ds. member_of ds (skip_while is_ascii_digit (decimal n ++ letter ∷ []))) f.0 ∙ ap (member_of (decimal n)) f.1
       ∙ cond-true (nat_lt 0 (length (decimal n)) && is_ascii_alphabetic letter) (Some (member letter (limit_of (digits_value 10 (decimal n))))) None
-          (and_from (nat_lt 0 (length (decimal n))) (is_ascii_alphabetic letter) (lt-ltb 0 (length (decimal n)) some) alphabetic)
+      (and_from (nat_lt 0 (length (decimal n))) (is_ascii_alphabetic letter) (lt-ltb 0 (length (decimal n)) some) alphabetic)
       ∙ ap (λ v. Some (member letter (limit_of v))) (decimal_value n fits_word) ∙ ap (λ l. Some (member letter l)) (limit_back n limit)
 
   no_comma : (letter : ℕ) → not (is_comma letter) ≡ true → list_all (λ x. not (is_comma x)) (decimal n ++ letter ∷ []) ≡ true
@@ -229,7 +229,7 @@ definition_back (Some s) (Some n) h k =
     let some : 0 < length line = omega (arith, length-append (decimal s) (codes "S," ++ (decimal n ++ codes "C"))) in
     let same : line ≡ first ++ 44 ∷ second = sym (append_assoc (decimal s) (83 ∷ []) (44 ∷ second)) in
     ap limits_in (members_some line some ∙ ap (slice_split is_comma) same ∙ split_part is_comma first 44 second (no_comma s h 83 refl) refl
-      ∙ ap (λ ts. first ∷ ts) (split_last is_comma second (no_comma n k 67 refl)))
+    ∙ ap (λ ts. first ∷ ts) (split_last is_comma second (no_comma n k 67 refl)))
     ∙ two_members first second (member 83 (Some s)) (member 67 (Some n)) (member_back s h 83 refl refl) (member_back n k 67 refl refl)
 
 definition_in_line : (o c : Option ℕ) → IfSome o IsLimit → IfSome c IsLimit → list_all is_in_line (written_limits o c) ≡ true
@@ -240,12 +240,12 @@ definition_in_line (Some s) (Some n) h k =
     number_in_line s h (codes "S," ++ (decimal n ++ codes "C")) (all_append is_in_line (codes "S,") (decimal n ++ codes "C") refl (number_in_line n k (codes "C") refl))
 
 module _ (limits : LimitNumbers) (pairs : List Pair) (right : AreLimits limits) (small : AllByRecursion IsSmall pairs) where
-  parts_back : parts_of (written limits pairs) ≡ (written_definition limits ∷ map body pairs) ++ [] ∷ []
+  parts_back : parts_of (written_ledger limits pairs) ≡ (written_definition limits ∷ map body pairs) ++ [] ∷ []
   parts_back =
       split_part is_line_feed (written_definition limits) 10 (flat_map written_line pairs) (definition_in_line limits.octets limits.count right.octets right.count) refl
       ∙ ap (λ ps. written_definition limits ∷ ps) (lines_back pairs small)
 
-  reads_back : length (written limits pairs) < 5120 → Reads (written limits pairs) limits pairs
+  reads_back : length (written_ledger limits pairs) < 5120 → Reads (written_ledger limits pairs) limits pairs
   reads_back short = record {
     definition = written_definition limits;
     sums = map body pairs;
@@ -259,4 +259,4 @@ module _ (limits : LimitNumbers) (pairs : List Pair) (right : AreLimits limits) 
 pub written_reads_back_lem : WrittenReadsBack
 written_reads_back_lem limits pairs right small short =
     let read = reads_back limits pairs right small short in
-    (read, λ m qs other. one_reading_lem (written limits pairs) m limits qs pairs other read)
+    (read, λ m qs other. one_reading_lem (written_ledger limits pairs) m limits qs pairs other read)

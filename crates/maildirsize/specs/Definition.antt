@@ -7,7 +7,7 @@ use Rattle.std.specs.Char.{is_ascii_digit, is_ascii_alphabetic}
 use Rattle.std.specs.Str.Parse.{digits_value}
 use Rattle.quota_units.specs.Limiting.{LimitNumbers}
 use Rattle.maildirsize.specs.declared.definition.Member.{Member}
-use Rattle.maildirsize.specs.Fronts.{behind}
+use Rattle.maildirsize.specs.Fronts.{skip_while}
 use Rattle.maildirsize.specs.Lines.{is_line_feed, first_line}
 
 -- a comma is byte 44
@@ -28,7 +28,7 @@ member_of digits (letter ∷ []) =
 member_of digits (letter ∷ next ∷ more) = None
 
 abbrev pub member_in : List ℕ → Option Member
-member_in text = member_of (take_while is_ascii_digit text) (behind is_ascii_digit text)
+member_in text = member_of (take_while is_ascii_digit text) (skip_while is_ascii_digit text)
 
 abbrev pub is_member : List ℕ → Bool
 is_member text = is_some (member_in text)
@@ -50,7 +50,7 @@ limits_named members = record { octets = limit_named 83 members; count = limit_n
 abbrev pub limits_in : List (List ℕ) → Option LimitNumbers
 limits_in texts = if list_all is_member texts then Some (limits_named (filter_map member_in texts)) else None
 
--- where the first wrong text begins, with a comma behind each text
+-- where the first wrong text begins_with, with a comma behind each text
 abbrev pub wrong_text_in : List (List ℕ) → Option ℕ
 wrong_text_in texts =
     let right = prefix_len is_member texts in

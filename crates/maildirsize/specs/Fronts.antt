@@ -2,10 +2,10 @@
 use Rattle.std.specs.Prelude.{ℕ, Bool, false, List, [], ◌∷◌, drop}
 use Rattle.std.specs.List.{prefix_len}
 
-abbrev pub behind : (ℕ → Bool) → List ℕ → List ℕ
-behind p bytes = drop (prefix_len p bytes) bytes
+abbrev pub skip_while : (ℕ → Bool) → List ℕ → List ℕ
+skip_while p bytes = drop (prefix_len p bytes) bytes
 
 -- whether the first element is there and passes
-abbrev pub begins : (ℕ → Bool) → List ℕ → Bool
-begins p [] = false
-begins p (b ∷ bytes) = p b
+abbrev pub begins_with : (ℕ → Bool) → List ℕ → Bool
+begins_with p [] = false
+begins_with p (b ∷ bytes) = p b

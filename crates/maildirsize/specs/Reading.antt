@@ -32,18 +32,18 @@ abbrev pub SumsUp : List ℕ → LedgerText → Type 0
 SumsUp bytes ledger = (pairs : List Pair) × Reads bytes ledger.limits pairs × (ledger ≡ summary ledger.limits pairs)
 
 -- the first line that is no sum line; the definition is line 1
-abbrev pub bad_line : List (List ℕ) → Option LedgerFault
-bad_line sums = let right = prefix_len is_sum_line sums in if nat_lt right (length sums) then Some (BadLine (right + 2)) else None
+abbrev pub line_fault : List (List ℕ) → Option LedgerFault
+line_fault sums = let right = prefix_len is_sum_line sums in if nat_lt right (length sums) then Some (BadLine (right + 2)) else None
 
 -- a rest that no line feed ends, by the place at which it begins
-abbrev pub torn : ℕ → List ℕ → Option LedgerFault
-torn len rest = if nat_lt 0 (length rest) then Some (Torn (len - length rest)) else None
+abbrev pub rest_fault : ℕ → List ℕ → Option LedgerFault
+rest_fault len rest = if nat_lt 0 (length rest) then Some (Torn (len - length rest)) else None
 
 -- the fault of the definition, of the sum lines and of the rest, in this order
 abbrev pub fault_in : ℕ → List (List ℕ) → List ℕ → Option LedgerFault
 fault_in len [] rest = Some (Torn 0)
 fault_in len (definition ∷ sums) rest =
-    option_or (option_map BadDefinition (wrong_member_in definition)) (option_or (bad_line sums) (torn len rest))
+    option_or (option_map BadDefinition (wrong_member_in definition)) (option_or (line_fault sums) (rest_fault len rest))
 
 -- the first fault of a text
 abbrev pub fault_of : List ℕ → Option LedgerFault

@@ -1,6 +1,6 @@
 -- The sum lines of a ledger (Maildir++): spaces, an integer of octets, one space or more, an integer of messages, and
 -- spaces. A space is byte 32. An integer is an optional minus, byte 45, and 1 to 18 digits.
-use Rattle.std.specs.Prelude.{ℕ, ℤ, pos, neg_ℤ, Bool, not, ◌||◌, nat_lt, nat_le, ◌==◌, if◌then◌else◌, List, [], ◌∷◌, length, Option, Some, None, is_some, option_map, option_and_then}
+use Rattle.std.specs.Prelude.{ℕ, ℤ, pos, neg_ℤ, Bool, not, ◌||◌, nat_lt, nat_le, ◌==◌, if◌then◌else◌, List, [], ◌∷◌, length, Option, None, is_some, option_map, option_and_then}
 use Rattle.std.specs.List.{slice_split, filter, filter_map, list_any, after_first}
 use Rattle.quota_units.specs.Digits.{number_of}
 use Rattle.maildirsize.specs.Lines.{is_line_feed, first_line}

@@ -1,5 +1,5 @@
 -- The one written spelling of a ledger.
-use Rattle.std.specs.Prelude.{◌≤◌, ◌<◌, ◌^◌, ℕ, ℤ, unsigned_abs, List, ◌++◌, Option, Some, None, codes, decimal}
+use Rattle.std.specs.Prelude.{◌<◌, ℕ, unsigned_abs, List, ◌++◌, Option, Some, None, codes, decimal}
 use Rattle.std.specs.Fmt.{signed_decimal}
 use Rattle.std.specs.List.{flat_map}
 use Rattle.quota_units.specs.Limiting.{LimitNumbers}
@@ -20,8 +20,8 @@ abbrev pub written_line : Pair → List ℕ
 written_line pair = signed_decimal pair.octets ++ (codes " " ++ (signed_decimal pair.count ++ codes "\n"))
 
 -- a whole ledger
-abbrev pub written : LimitNumbers → List Pair → List ℕ
-written limits pairs = written_definition limits ++ (codes "\n" ++ flat_map written_line pairs)
+abbrev pub written_ledger : LimitNumbers → List Pair → List ℕ
+written_ledger limits pairs = written_definition limits ++ (codes "\n" ++ flat_map written_line pairs)
 
 -- the numbers of a line that is read back: below 10 ^ 18 in magnitude
 pub record IsSmall (pair : Pair) : Type 0 where

@@ -1,13 +1,12 @@
 ghost use Rattle.std.specs.Prelude.{◌≡◌, ◌==◌, if◌then◌else◌, None, Some, IfSome, IfOk, MatchOption, MatchResult};
 ghost use Rattle.std.specs.List.{take_while};
 ghost use Rattle.quota_units.specs.Limiting.{IsLimit};
-ghost use Rattle.maildirsize.specs.Fronts.{behind, begins};
+ghost use Rattle.maildirsize.specs.Fronts.{skip_while, begins_with};
 ghost use Rattle.maildirsize.specs.Lines.{is_in_line, first_line};
 ghost use Rattle.maildirsize.specs.Definition.{limit_of, is_in_member, member_in, member_texts_at, limits_in, wrong_text_in, definition_in, wrong_member_in, definition_of};
 
-use quota_units::Limits;
-
 use crate::fronts::{behind_byte, leading_digits};
+use quota_units::Limits;
 
 /// The largest limit, 2^53 - 1. A larger number is cut at it.
 const LARGEST: u64 = 9007199254740991;
@@ -44,7 +43,7 @@ pub fn definition_of(bytes: &[u8]) -> Option<Limits>
 /// The offset at which the line's first wrong member begins.
 pub(crate) fn leading_definition(bytes: &[u8]) -> Result<(Option<u64>, Option<u64>, &[u8]), usize>
     ensures limits { MatchResult result
-        (λ r. (definition_in (first_line bytes.now) ≡ Some (record { octets = r.0; count = r.1 })) × (r.2.now ≡ behind is_in_line bytes.now))
+        (λ r. (definition_in (first_line bytes.now) ≡ Some (record { octets = r.0; count = r.1 })) × (r.2.now ≡ skip_while is_in_line bytes.now))
         (λ at. wrong_member_in (first_line bytes.now) ≡ Some at) }
     ensures octets { IfOk result (λ r. IfSome r.0 IsLimit) }
     ensures count { IfOk result (λ r. IfSome r.1 IsLimit) }
@@ -72,7 +71,7 @@ pub(crate) fn limits_from(octets: Option<u64>, count: Option<u64>) -> Limits
 /// The offset at which the first wrong member begins.
 fn leading_members(bytes: &[u8]) -> Result<(Option<u64>, Option<u64>, &[u8]), usize>
     ensures limits { MatchResult result
-        (λ r. (limits_in (member_texts_at bytes.now) ≡ Some (record { octets = r.0; count = r.1 })) × (r.2.now ≡ behind is_in_line bytes.now))
+        (λ r. (limits_in (member_texts_at bytes.now) ≡ Some (record { octets = r.0; count = r.1 })) × (r.2.now ≡ skip_while is_in_line bytes.now))
         (λ at. wrong_text_in (member_texts_at bytes.now) ≡ Some at) }
     ensures octets { IfOk result (λ r. IfSome r.0 IsLimit) }
     ensures count { IfOk result (λ r. IfSome r.1 IsLimit) }
@@ -97,7 +96,7 @@ fn leading_members(bytes: &[u8]) -> Result<(Option<u64>, Option<u64>, &[u8]), us
 /// no member stands there.
 fn leading_member(bytes: &[u8]) -> Option<(Member, &[u8])>
     ensures member { MatchOption result (member_in (take_while is_in_member bytes.now) ≡ None)
-        (λ r. (member_in (take_while is_in_member bytes.now) ≡ Some r.0) × (r.1.now ≡ behind is_in_member bytes.now)) }
+        (λ r. (member_in (take_while is_in_member bytes.now) ≡ Some r.0) × (r.1.now ≡ skip_while is_in_member bytes.now)) }
     ensures limit { IfSome result (λ r. IfSome r.0.limit IsLimit) }
 {
     let (number, rest) = leading_digits(bytes);
@@ -131,19 +130,23 @@ fn limit_of(number: u64) -> Option<u64>
     ensures value { result ≡ limit_of number }
     ensures range { IfSome result IsLimit }
 {
-    if number == 0 { None } else { Some(number.min(LARGEST)) }
+    if number == 0 {
+        None
+    } else {
+        Some(number.min(LARGEST))
+    }
 }
 
 /// Whether the bytes begin with a byte of a line.
 fn is_within_line(bytes: &[u8]) -> bool
-    ensures { result ≡ begins is_in_line bytes.now }
+    ensures { result ≡ begins_with is_in_line bytes.now }
 {
     !matches!(bytes, [] | [b'\n', ..])
 }
 
 /// Whether the bytes begin with a byte of a member.
 fn is_within_member(bytes: &[u8]) -> bool
-    ensures { result ≡ begins is_in_member bytes.now }
+    ensures { result ≡ begins_with is_in_member bytes.now }
 {
     !matches!(bytes, [] | [b',' | b'\n', ..])
 }

@@ -2,7 +2,7 @@ ghost use Rattle.std.specs.Prelude.{◌≡◌, ◌==◌, ◌∷◌, min, false, 
 ghost use Rattle.std.specs.List.{take_while};
 ghost use Rattle.std.specs.Char.{is_ascii_digit};
 ghost use Rattle.std.specs.Str.Parse.{digits_value};
-ghost use Rattle.maildirsize.specs.Fronts.{behind, begins};
+ghost use Rattle.maildirsize.specs.Fronts.{skip_while, begins_with};
 
 /// What the number of leading digits is cut at, above each limit and each integer of a ledger.
 pub(crate) const CUT: u64 = 1000000000000000000;
@@ -11,7 +11,7 @@ pub(crate) const CUT: u64 = 1000000000000000000;
 #[tactic(auto, using(crate::proofs::DigitSteps::digit_step))]
 pub(crate) fn leading_digits(bytes: &[u8]) -> (u64, &[u8])
     ensures number { result.0 ≡ min (digits_value 10 (take_while is_ascii_digit bytes.now)) CUT }
-    ensures rest { result.1.now ≡ behind is_ascii_digit bytes.now }
+    ensures rest { result.1.now ≡ skip_while is_ascii_digit bytes.now }
 {
     let mut number = 0u64;
     for (i, b) in bytes.iter().enumerate() {
@@ -25,7 +25,7 @@ pub(crate) fn leading_digits(bytes: &[u8]) -> (u64, &[u8])
 
 /// The bytes behind this byte, where they begin with it.
 pub(crate) fn behind_byte(bytes: &[u8], byte: u8) -> Option<&[u8]>
-    ensures { MatchOption result (begins (λ b. b == byte) bytes.now ≡ false) (λ rest. bytes.now ≡ byte ∷ rest.now) }
+    ensures { MatchOption result (begins_with (λ b. b == byte) bytes.now ≡ false) (λ rest. bytes.now ≡ byte ∷ rest.now) }
 {
     match bytes {
         [first, rest @ ..] if *first == byte => Some(rest),

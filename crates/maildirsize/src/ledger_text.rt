@@ -6,14 +6,13 @@ ghost use Rattle.quota_units.specs.Limiting.{LimitNumbers};
 ghost use Rattle.maildirsize.specs.Lines.{is_line_feed, lines_in, rest_in};
 ghost use Rattle.maildirsize.specs.SumLine.{pairs_in};
 ghost use Rattle.maildirsize.specs.Sums.{Pair};
-ghost use Rattle.maildirsize.specs.Reading.{Reads, SumsUp, summary, fault_of, bad_line, torn};
-
-use quota_units::Limits;
-use thiserror::Error;
+ghost use Rattle.maildirsize.specs.Reading.{Reads, SumsUp, summary, fault_of, line_fault, rest_fault};
 
 use crate::definition::{leading_definition, limits_from};
 use crate::fronts::behind_byte;
 use crate::sum_line::leading_sum_line;
+use quota_units::Limits;
+use thiserror::Error;
 
 /// A ledger of so many bytes or more is no longer read.
 const FULL: usize = 5120;
@@ -86,7 +85,7 @@ pub fn read_ledger(bytes: &[u8]) -> Result<LedgerText, LedgerFault>
 fn read_summed(limits: Limits, text_length: usize, bytes: &[u8]) -> Result<LedgerText, LedgerFault>
     requires within { length bytes.now ≤ text_length }
     requires short { text_length < FULL }
-    ensures fault { result_err result ≡ option_or (bad_line (lines_in bytes.now)) (torn text_length (rest_in bytes.now)) }
+    ensures fault { result_err result ≡ option_or (line_fault (lines_in bytes.now)) (rest_fault text_length (rest_in bytes.now)) }
     ensures ledger { IfOk result (λ ledger. ledger ≡ summary limits (pairs_in (lines_in bytes.now))) }
 {
     let mut lines = 0;

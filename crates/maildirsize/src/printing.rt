@@ -1,10 +1,9 @@
-ghost use Rattle.std.specs.Prelude.{◌≡◌, ◌<◌, ◌≤◌, ◌^◌, pos, [], ◌∷◌, ◌++◌, length};
-ghost use Rattle.maildirsize.specs.Written.{written_definition, written_line, written, IsSmall};
-
-use itoa::Buffer;
-use quota_units::{Limits, Totals};
+ghost use Rattle.std.specs.Prelude.{◌≡◌, ◌+◌, ◌<◌, ◌≤◌, ◌^◌, pos, [], ◌∷◌, ◌++◌, length, decimal};
+ghost use Rattle.maildirsize.specs.Written.{written_definition, written_line, written_ledger, IsSmall};
 
 use crate::text::Text;
+use itoa::Buffer;
+use quota_units::{Limits, Totals};
 
 /// Sets the text to the written definition of the limits, such as `10000000S,1000C`; `0S` where none is set.
 ///
@@ -29,7 +28,7 @@ pub fn print_line(octets: i64, count: i64, out: &mut Text)
 pub fn print_folded(limits: &Limits, totals: &Totals, out: &mut Text)
     requires octets { totals.now.octets < 2 ^ 63 }
     requires count { totals.now.count < 2 ^ 63 }
-    ensures { out.new ≡ written limits.now (record { octets = pos totals.now.octets; count = pos totals.now.count } ∷ []) }
+    ensures { out.new ≡ written_ledger limits.now (record { octets = pos totals.now.octets; count = pos totals.now.count } ∷ []) }
 {
     out.clear();
     push_definition(limits, out);
@@ -45,21 +44,23 @@ fn push_definition(limits: &Limits, out: &mut Text)
 {
     match (limits.octets(), limits.count()) {
         (None, None) => out.push(b"0S"),
-        (Some(octets), None) => {
-            out.push(Buffer::new().format(octets).as_bytes());
-            out.push(b"S");
-        }
-        (None, Some(count)) => {
-            out.push(Buffer::new().format(count).as_bytes());
-            out.push(b"C");
-        }
+        (Some(octets), None) => push_limit(octets, b"S", out),
+        (None, Some(count)) => push_limit(count, b"C", out),
         (Some(octets), Some(count)) => {
-            out.push(Buffer::new().format(octets).as_bytes());
-            out.push(b"S,");
-            out.push(Buffer::new().format(count).as_bytes());
-            out.push(b"C");
+            push_limit(octets, b"S,", out);
+            push_limit(count, b"C", out);
         }
     }
+}
+
+/// Adds a limit's number and letter at the end.
+fn push_limit(number: u64, letter: &[u8], out: &mut Text)
+    requires { length out.old + length letter.now ≤ 100 }
+    ensures text { out.new ≡ out.old ++ (decimal number ++ letter.now) }
+    ensures short { length out.new ≤ length out.old + length letter.now + 20 }
+{
+    out.push(Buffer::new().format(number).as_bytes());
+    out.push(letter);
 }
 
 /// Adds the written sum line at the end.

@@ -1,6 +1,6 @@
 ghost use Rattle.std.specs.Prelude.{◌≡◌, ◌<◌, None, Some, IfSome, MatchOption, unsigned_abs};
 ghost use Rattle.std.specs.List.{take_while};
-ghost use Rattle.maildirsize.specs.Fronts.{behind, begins};
+ghost use Rattle.maildirsize.specs.Fronts.{skip_while, begins_with};
 ghost use Rattle.maildirsize.specs.SumLine.{is_space, is_in_word, magnitude_in, integer_in, sum_line_at};
 
 use crate::fronts::{CUT, behind_byte, leading_digits};
@@ -21,7 +21,7 @@ pub(crate) fn leading_sum_line(bytes: &[u8]) -> Option<(i64, i64, &[u8])>
 
 /// The bytes behind the spaces that they begin with.
 fn behind_spaces(bytes: &[u8]) -> &[u8]
-    ensures { result.now ≡ behind is_space bytes.now }
+    ensures { result.now ≡ skip_while is_space bytes.now }
 {
     let mut rest = bytes;
     while let [b' ', next @ ..] = rest {
@@ -33,7 +33,7 @@ fn behind_spaces(bytes: &[u8]) -> &[u8]
 /// The integer that is the first word of the bytes, and the bytes behind it; `None` where that word is no integer.
 fn leading_integer(bytes: &[u8]) -> Option<(i64, &[u8])>
     ensures integer { MatchOption result (integer_in (take_while is_in_word bytes.now) ≡ None)
-        (λ r. (integer_in (take_while is_in_word bytes.now) ≡ Some r.0) × (r.1.now ≡ behind is_in_word bytes.now)) }
+        (λ r. (integer_in (take_while is_in_word bytes.now) ≡ Some r.0) × (r.1.now ≡ skip_while is_in_word bytes.now)) }
     ensures small { IfSome result (λ r. unsigned_abs r.0 < CUT) }
 {
     match behind_byte(bytes, b'-') {
@@ -52,7 +52,7 @@ fn leading_integer(bytes: &[u8]) -> Option<(i64, &[u8])>
 /// is no such number.
 fn leading_magnitude(bytes: &[u8]) -> Option<(u64, &[u8])>
     ensures number { MatchOption result (magnitude_in (take_while is_in_word bytes.now) ≡ None)
-        (λ r. (magnitude_in (take_while is_in_word bytes.now) ≡ Some r.0) × (r.1.now ≡ behind is_in_word bytes.now)) }
+        (λ r. (magnitude_in (take_while is_in_word bytes.now) ≡ Some r.0) × (r.1.now ≡ skip_while is_in_word bytes.now)) }
     ensures small { IfSome result (λ r. r.0 < CUT) }
 {
     let (number, rest) = leading_digits(bytes);
@@ -65,7 +65,7 @@ fn leading_magnitude(bytes: &[u8]) -> Option<(u64, &[u8])>
 
 /// Whether the bytes begin with a byte of a word.
 fn is_within_word(bytes: &[u8]) -> bool
-    ensures { result ≡ begins is_in_word bytes.now }
+    ensures { result ≡ begins_with is_in_word bytes.now }
 {
     !matches!(bytes, [] | [b' ' | b'\n', ..])
 }

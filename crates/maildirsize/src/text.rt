@@ -22,6 +22,14 @@ impl Model for Text {
     ghost invariant = { λ t. t.length ≤ 128 };
 }
 
+impl Default for Text {
+    ghost is_default = { λ t. t ≡ [] };
+
+    fn default() -> Text {
+        Text::new()
+    }
+}
+
 impl Text {
     /// The empty text.
     pub fn new() -> Text

@@ -1,4 +1,4 @@
-use Rattle.std.proofs.Common.{◌≡◌, ◌+◌, ◌≤◌, ◌<◌, length, Some, ap, ◌∙◌, sym, arith}
+use Rattle.std.proofs.Common.{◌≡◌, ◌+◌, ◌<◌, length, Some, ap, ◌∙◌, sym, arith}
 use Rattle.std.proofs.lemmas.Bool.Decides.{nat_tests}
 use Rattle.maildirsize.specs.Sums.{Pair}
 use Rattle.maildirsize.proofs.SumsLemmas.{sum_more, summed_as, bound_as, sums_fault, sum_line_shorter, sums_right, sums_summary, added}
@@ -26,7 +26,7 @@ loop-rest-preserved c =
     let count = added _ c.in-Some.more_count c.from-count.result c.loop-rest.lines h.count few c.in-Some.ensures.count c.from-count.ensures in
     record {
       read = summed_as c.args.bytes.now c.in-Some.next.now (c.loop-rest.lines + 1) _ _ _ _ octets.0 count.0
-        (sum_more c.args.bytes.now c.loop-rest.rest.now c.loop-rest.lines _ _ h.read pair c.in-Some.next.now c.in-Some.ensures.line);
+          (sum_more c.args.bytes.now c.loop-rest.rest.now c.loop-rest.lines _ _ h.read pair c.in-Some.next.now c.in-Some.ensures.line);
       room = omega (arith, h.room, shorter);
       octets = bound_as _ _ _ octets.0 octets.1;
       count = bound_as _ _ _ count.0 count.1;
