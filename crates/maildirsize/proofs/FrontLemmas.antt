@@ -60,8 +60,10 @@ module _ (p q : ℕ → Bool) (wider : (x : ℕ) → p x ≡ true → q x ≡ tr
   front_wider [] = refl
   front_wider (x ∷ xs) = ⊎_elim
       (λ (h : p x ≡ true). take_yes q x xs (wider x h) ∙ ap (λ ys. x ∷ ys) (front_wider xs)
-      ∙ sym (ap (λ ys. ys ++ take_while q (skip_while p (x ∷ xs))) (take_yes p x xs h) ∙ ap (λ ys. (x ∷ take_while p xs) ++ take_while q ys) (skip_yes p x xs h)))
-      (λ (h : p x ≡ false). sym (ap (λ ys. ys ++ take_while q (skip_while p (x ∷ xs))) (take_no p x xs h) ∙ ap (take_while q) (skip_no p x xs h)))
+      ∙ sym (ap (λ ys. ys ++ take_while q (skip_while p (x ∷ xs))) (take_yes p x xs h)
+      ∙ ap (λ ys. (x ∷ take_while p xs) ++ take_while q ys) (skip_yes p x xs h)))
+      (λ (h : p x ≡ false). sym (ap (λ ys. ys ++ take_while q (skip_while p (x ∷ xs))) (take_no p x xs h)
+      ∙ ap (take_while q) (skip_no p x xs h)))
       (cases_Bool (p x))
 
   pub skip_wider : (xs : List ℕ) → skip_while q xs ≡ skip_while q (skip_while p xs)
@@ -72,6 +74,7 @@ module _ (p q : ℕ → Bool) (wider : (x : ℕ) → p x ≡ true → q x ≡ tr
       (cases_Bool (p x))
 
 -- a front of q that p does not begin has an element that p refuses
-pub front_mixed : (p q : ℕ → Bool) (xs : List ℕ) → begins_with p xs ≡ false → begins_with q xs ≡ true → list_all p (take_while q xs) ≡ false
+pub front_mixed : (p q : ℕ → Bool) (xs : List ℕ) → begins_with p xs ≡ false → begins_with q xs ≡ true
+    → list_all p (take_while q xs) ≡ false
 front_mixed p q [] h k = absurd (false≢true k)
 front_mixed p q (x ∷ xs) h k = ap (list_all p) (take_yes q x xs k) ∙ ap (λ b. b && list_all p (take_while q xs)) h

@@ -31,7 +31,9 @@ all_right (t ∷ texts) r =
 not_wrong : (texts : List (List ℕ)) → list_all is_member texts ≡ true → wrong_text_in texts ≡ None
 not_wrong texts r =
     ap (λ n. cond (nat_lt n (length texts)) (Some (sum_by (λ (t : List ℕ). length t + 1) (take n texts))) None) (all_right texts r)
-    ∙ cond-false (nat_lt (length texts) (length texts)) (Some (sum_by (λ (t : List ℕ). length t + 1) (take (length texts) texts))) None (le-ltb (length texts) (length texts) (omega arith))
+    ∙ cond-false (nat_lt (length texts) (length texts))
+    (Some (sum_by (λ (t : List ℕ). length t + 1) (take (length texts) texts))) None
+    (le-ltb (length texts) (length texts) (omega arith))
 
 pub defined_not_wrong : (line : List ℕ) (limits : LimitNumbers) → definition_in line ≡ Some limits → wrong_member_in line ≡ None
 defined_not_wrong line limits h =
@@ -43,7 +45,8 @@ defined_not_wrong line limits h =
 wrong_not_defined : (line : List ℕ) (at : ℕ) → wrong_member_in line ≡ Some at → definition_in line ≡ None
 wrong_not_defined line at h = ⊎_elim
     (λ (r : list_all is_member (members_in line) ≡ true). let n = not_wrong (members_in line) r in absurd (clash n h))
-    (λ (r : list_all is_member (members_in line) ≡ false). cond-false (list_all is_member (members_in line)) (Some (limits_named (filter_map member_in (members_in line)))) None r)
+    (λ (r : list_all is_member (members_in line) ≡ false). cond-false (list_all is_member (members_in line))
+    (Some (limits_named (filter_map member_in (members_in line)))) None r)
     (cases_Bool (list_all is_member (members_in line)))
   where
     clash : {o : Option ℕ} {n : ℕ} → o ≡ None → o ≡ Some n → ⊥
@@ -60,7 +63,8 @@ ended_begins (x ∷ bytes) = ⊎_elim
     (λ (h : is_line_feed x ≡ true).
     ap (λ b. b || list_any is_line_feed bytes) h ∙ sym (ap (begins_with is_line_feed) (skip_no is_in_line x bytes (ap not h)) ∙ h))
     (λ (h : is_line_feed x ≡ false).
-    ap (λ b. b || list_any is_line_feed bytes) h ∙ ended_begins bytes ∙ sym (ap (begins_with is_line_feed) (skip_yes is_in_line x bytes (ap not h))))
+    ap (λ b. b || list_any is_line_feed bytes) h ∙ ended_begins bytes
+    ∙ sym (ap (begins_with is_line_feed) (skip_yes is_in_line x bytes (ap not h))))
     (cases_Bool (is_line_feed x))
 
 pub after_line : (bytes rest : List ℕ) → skip_while is_in_line bytes ≡ 10 ∷ rest → after_first is_line_feed bytes ≡ rest
@@ -76,7 +80,9 @@ after_line (x ∷ bytes) rest h = ⊎_elim
     (cases_Bool (is_line_feed x))
 
 -- the lines of a text with a line feed are the first and those behind it
-lines_ended : (bytes : List ℕ) → list_any is_line_feed bytes ≡ true → (lines_in bytes ≡ first_line bytes ∷ lines_in (after_first is_line_feed bytes)) × (rest_in bytes ≡ rest_in (after_first is_line_feed bytes))
+lines_ended : (bytes : List ℕ) → list_any is_line_feed bytes ≡ true
+    → (lines_in bytes ≡ first_line bytes ∷ lines_in (after_first is_line_feed bytes)) ×
+    (rest_in bytes ≡ rest_in (after_first is_line_feed bytes))
 lines_ended bytes h =
     let after = after_first is_line_feed bytes in
     let parts = parts_ended bytes h in
@@ -91,10 +97,13 @@ lines_torn bytes h = ap all_but_last (parts_torn bytes h)
 
 -- the fault of a text that is not too long
 short_fault : (bytes : List ℕ) → length bytes < 5120 → fault_of bytes ≡ fault_in (length bytes) (lines_in bytes) (rest_in bytes)
-short_fault bytes h = cond-false (nat_le 5120 (length bytes)) (Some (TooLong (length bytes))) (fault_in (length bytes) (lines_in bytes) (rest_in bytes)) (lt-leb 5120 (length bytes) h)
+short_fault bytes h = cond-false (nat_le 5120 (length bytes)) (Some (TooLong (length bytes)))
+    (fault_in (length bytes) (lines_in bytes) (rest_in bytes)) (lt-leb 5120 (length bytes) h)
 
-pub fault_without_line : (bytes : List ℕ) → length bytes < 5120 → list_any is_line_feed bytes ≡ false → fault_of bytes ≡ Some (Torn 0)
-fault_without_line bytes short h = short_fault bytes short ∙ ap (λ ls. fault_in (length bytes) ls (rest_in bytes)) (lines_torn bytes h)
+pub fault_without_line : (bytes : List ℕ) → length bytes < 5120 → list_any is_line_feed bytes ≡ false
+    → fault_of bytes ≡ Some (Torn 0)
+fault_without_line bytes short h = short_fault bytes short
+    ∙ ap (λ ls. fault_in (length bytes) ls (rest_in bytes)) (lines_torn bytes h)
 
 pub fault_of_definition : (bytes : List ℕ) (at : ℕ) → length bytes < 5120 → wrong_member_in (first_line bytes) ≡ Some at
     → fault_of bytes ≡ Some (cond (list_any is_line_feed bytes) (BadDefinition at) (Torn 0))
@@ -109,7 +118,8 @@ fault_of_definition bytes at short h = ⊎_elim
     (cases_Bool (list_any is_line_feed bytes))
 
 -- a text whose definition is right, and the bytes behind its line feed
-module _ (bytes sums : List ℕ) (limits : LimitNumbers) (short : length bytes < 5120) (defined : definition_in (first_line bytes) ≡ Some limits) (found : skip_while is_in_line bytes ≡ 10 ∷ sums) where
+module _ (bytes sums : List ℕ) (limits : LimitNumbers) (short : length bytes < 5120)
+    (defined : definition_in (first_line bytes) ≡ Some limits) (found : skip_while is_in_line bytes ≡ 10 ∷ sums) where
   ended : list_any is_line_feed bytes ≡ true
   ended = ended_begins bytes ∙ ap (begins_with is_line_feed) found
 
@@ -122,7 +132,9 @@ module _ (bytes sums : List ℕ) (limits : LimitNumbers) (short : length bytes <
   pub fault_of_sums : fault_of bytes ≡ option_or (line_fault (lines_in sums)) (rest_fault (length bytes) (rest_in sums))
   fault_of_sums =
       short_fault bytes short ∙ ap (λ ls. fault_in (length bytes) ls (rest_in bytes)) cut.0
-      ∙ ap (λ o. option_or (option_map BadDefinition o) (option_or (line_fault (lines_in sums)) (rest_fault (length bytes) (rest_in bytes)))) (defined_not_wrong (first_line bytes) limits defined)
+      ∙ ap (λ o. option_or (option_map BadDefinition o)
+      (option_or (line_fault (lines_in sums)) (rest_fault (length bytes) (rest_in bytes))))
+      (defined_not_wrong (first_line bytes) limits defined)
       ∙ ap (λ r. option_or (line_fault (lines_in sums)) (rest_fault (length bytes) r)) cut.1
 
 -- the lines of which none is bad are sum lines
@@ -140,8 +152,10 @@ prefix_all (line ∷ lines) h = ⊎_elim
 none_bad : (lines : List (List ℕ)) → line_fault lines ≡ None → list_all is_sum_line lines ≡ true
 none_bad lines h = ⊎_elim
     (λ (k : nat_lt (prefix_len is_sum_line lines) (length lines) ≡ true).
-    absurd (clash (cond-true (nat_lt (prefix_len is_sum_line lines) (length lines)) (Some (BadLine (prefix_len is_sum_line lines + 2))) None k) h))
-    (λ (k : nat_lt (prefix_len is_sum_line lines) (length lines) ≡ false). prefix_all lines (ltb-false (prefix_len is_sum_line lines) (length lines) k))
+    absurd (clash (cond-true (nat_lt (prefix_len is_sum_line lines) (length lines))
+    (Some (BadLine (prefix_len is_sum_line lines + 2))) None k) h))
+    (λ (k : nat_lt (prefix_len is_sum_line lines) (length lines) ≡ false). prefix_all lines
+    (ltb-false (prefix_len is_sum_line lines) (length lines) k))
     (cases_Bool (nat_lt (prefix_len is_sum_line lines) (length lines)))
   where
     clash : {o : Option LedgerFault} {f : LedgerFault} → o ≡ Some f → o ≡ None → ⊥
@@ -153,7 +167,8 @@ pairs_stated (line ∷ lines) h =
     let p = and_parts (is_sum_line line) (list_all is_sum_line lines) h in
     stated (pair_in line) p.0 (pairs_stated lines p.1)
   where
-    stated : (o : Option Pair) → is_some o ≡ true → map pair_in lines ≡ map Some (pairs_in lines) → o ∷ map pair_in lines ≡ map Some (cons_option o (pairs_in lines))
+    stated : (o : Option Pair) → is_some o ≡ true → map pair_in lines ≡ map Some (pairs_in lines)
+        → o ∷ map pair_in lines ≡ map Some (cons_option o (pairs_in lines))
     stated None k e = absurd (false≢true k)
     stated (Some p) k e = ap (λ os. Some p ∷ os) e
 
@@ -165,12 +180,15 @@ whole_text : (len : ℕ) (rest : List ℕ) → rest_fault len rest ≡ None → 
 whole_text len [] h = refl
 whole_text len (x ∷ rest) h =
     let some : 0 < length (x ∷ rest) = omega arith in
-    let e = cond-true (nat_lt 0 (length (x ∷ rest))) (Some (Torn (len - length (x ∷ rest)))) None (lt-ltb 0 (length (x ∷ rest)) some) in
+    let e = cond-true (nat_lt 0 (length (x ∷ rest))) (Some (Torn (len - length (x ∷ rest)))) None
+    (lt-ltb 0 (length (x ∷ rest)) some) in
     cc
 
 -- the lines that none is wrong of are read
-pub sums_read : (bytes sums : List ℕ) (limits : LimitNumbers) → length bytes < 5120 → definition_in (first_line bytes) ≡ Some limits → skip_while is_in_line bytes ≡ 10 ∷ sums
-    → option_or (line_fault (lines_in sums)) (rest_fault (length bytes) (rest_in sums)) ≡ None → Reads bytes limits (pairs_in (lines_in sums))
+pub sums_read : (bytes sums : List ℕ) (limits : LimitNumbers) → length bytes < 5120 → definition_in (first_line bytes) ≡ Some limits
+    → skip_while is_in_line bytes ≡ 10 ∷ sums
+    → option_or (line_fault (lines_in sums)) (rest_fault (length bytes) (rest_in sums)) ≡ None
+    → Reads bytes limits (pairs_in (lines_in sums))
 sums_read bytes sums limits short defined found none =
     let c = cut bytes sums limits short defined found in
     let n = or_none (line_fault (lines_in sums)) (rest_fault (length bytes) (rest_in sums)) none in
@@ -196,8 +214,11 @@ all_stated (line ∷ lines) (p ∷ pairs) h =
 pub no_fault : (bytes : List ℕ) (limits : LimitNumbers) (pairs : List Pair) → Reads bytes limits pairs → fault_of bytes ≡ None
 no_fault bytes limits pairs read =
     short_fault bytes read.short ∙ ap (λ ls. fault_in (length bytes) ls (rest_in bytes)) read.lines
-    ∙ ap (λ o. option_or (option_map BadDefinition o) (option_or (line_fault read.sums) (rest_fault (length bytes) (rest_in bytes)))) (defined_not_wrong read.definition limits read.defined)
-    ∙ ap (λ o. option_or o (rest_fault (length bytes) (rest_in bytes))) (no_bad_line read.sums (all_stated read.sums pairs read.stated))
+    ∙ ap (λ o. option_or (option_map BadDefinition o)
+    (option_or (line_fault read.sums) (rest_fault (length bytes) (rest_in bytes))))
+    (defined_not_wrong read.definition limits read.defined)
+    ∙ ap (λ o. option_or o (rest_fault (length bytes) (rest_in bytes)))
+    (no_bad_line read.sums (all_stated read.sums pairs read.stated))
     ∙ ap (rest_fault (length bytes)) read.whole
 
 same_pairs : (ps qs : List Pair) → map (λ (p : Pair). Some p) ps ≡ map (λ (p : Pair). Some p) qs → ps ≡ qs
@@ -209,7 +230,8 @@ same_pairs (p ∷ ps) (q ∷ qs) h =
     let more : map (λ (p : Pair). Some p) ps ≡ map (λ (p : Pair). Some p) qs = cc in
     ap (λ x. x ∷ ps) first ∙ ap (λ xs. q ∷ xs) (same_pairs ps qs more)
 
-pub one_reading_lem : (bytes : List ℕ) (l m : LimitNumbers) (ps qs : List Pair) → Reads bytes l ps → Reads bytes m qs → (l ≡ m) × (ps ≡ qs)
+pub one_reading_lem : (bytes : List ℕ) (l m : LimitNumbers) (ps qs : List Pair) → Reads bytes l ps → Reads bytes m qs
+    → (l ≡ m) × (ps ≡ qs)
 one_reading_lem bytes l m ps qs a b =
     let lines = sym a.lines ∙ b.lines in
     let definition : a.definition ≡ b.definition = cc in
@@ -227,8 +249,10 @@ read_exactly bytes (Ok ledger) fault read limits pairs h =
 read_exactly bytes (Err e) fault read limits pairs h = let n = fault ∙ no_fault bytes limits pairs h in cc
 
 -- the ledger that is read, by the sum lines behind its definition
-pub reads_as : (bytes sums : List ℕ) (limits : LimitNumbers) (r : Result LedgerText LedgerFault) → length bytes < 5120 → definition_in (first_line bytes) ≡ Some limits → skip_while is_in_line bytes ≡ 10 ∷ sums
-    → result_err r ≡ option_or (line_fault (lines_in sums)) (rest_fault (length bytes) (rest_in sums)) → IfOk r (λ ledger. ledger ≡ summary limits (pairs_in (lines_in sums)))
+pub reads_as : (bytes sums : List ℕ) (limits : LimitNumbers) (r : Result LedgerText LedgerFault) → length bytes < 5120
+    → definition_in (first_line bytes) ≡ Some limits → skip_while is_in_line bytes ≡ 10 ∷ sums
+    → result_err r ≡ option_or (line_fault (lines_in sums)) (rest_fault (length bytes) (rest_in sums))
+    → IfOk r (λ ledger. ledger ≡ summary limits (pairs_in (lines_in sums)))
     → IfOk r (SumsUp bytes)
 reads_as bytes sums limits (Ok ledger) short defined found fault is =
     let pairs = pairs_in (lines_in sums) in

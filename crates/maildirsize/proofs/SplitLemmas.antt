@@ -37,14 +37,18 @@ module _ (sep : ℕ → Bool) (apart : (x : ℕ) → is_line_feed x ≡ true →
   outside_end : (x : ℕ) → is_line_feed x ≡ true → is_inside sep x ≡ false
   outside_end x l = not_from_true (sep x || is_line_feed x) (or_right (sep x) (is_line_feed x) l)
 
-  at_end : (x : ℕ) (xs : List ℕ) → is_line_feed x ≡ true → slice_split sep (first_line (x ∷ xs)) ≡ take_while (is_inside sep) (x ∷ xs) ∷ parts_behind sep (skip_while (is_inside sep) (x ∷ xs))
+  at_end : (x : ℕ) (xs : List ℕ) → is_line_feed x ≡ true
+      → slice_split sep (first_line (x ∷ xs)) ≡ take_while (is_inside sep) (x ∷ xs) ∷ parts_behind sep
+      (skip_while (is_inside sep) (x ∷ xs))
   at_end x xs l =
       ap (slice_split sep) (line_over x xs l)
       ∙ sym (ap (λ ys. ys ∷ parts_behind sep (skip_while (is_inside sep) (x ∷ xs))) (take_no (is_inside sep) x xs (outside_end x l))
       ∙ ap (λ ys. [] ∷ parts_behind sep ys) (skip_no (is_inside sep) x xs (outside_end x l))
       ∙ ap (λ ps. [] ∷ ps) (cond-false (sep x) (slice_split sep (first_line xs)) [] (apart x l)))
 
-  at_separator : (x : ℕ) (xs : List ℕ) → is_line_feed x ≡ false → sep x ≡ true → slice_split sep (first_line (x ∷ xs)) ≡ take_while (is_inside sep) (x ∷ xs) ∷ parts_behind sep (skip_while (is_inside sep) (x ∷ xs))
+  at_separator : (x : ℕ) (xs : List ℕ) → is_line_feed x ≡ false → sep x ≡ true
+      → slice_split sep (first_line (x ∷ xs)) ≡ take_while (is_inside sep) (x ∷ xs) ∷ parts_behind sep
+      (skip_while (is_inside sep) (x ∷ xs))
   at_separator x xs l s =
       ap (slice_split sep) (line_more x xs l) ∙ split_yes sep x (first_line xs) s
       ∙ sym (ap (λ ys. ys ∷ parts_behind sep (skip_while (is_inside sep) (x ∷ xs))) (take_no (is_inside sep) x xs (outside_sep x s))
@@ -52,7 +56,8 @@ module _ (sep : ℕ → Bool) (apart : (x : ℕ) → is_line_feed x ≡ true →
       ∙ ap (λ ps. [] ∷ ps) (cond-true (sep x) (slice_split sep (first_line xs)) [] s))
 
   -- the first part, and those behind it
-  pub first_part : (xs : List ℕ) → slice_split sep (first_line xs) ≡ take_while (is_inside sep) xs ∷ parts_behind sep (skip_while (is_inside sep) xs)
+  pub first_part : (xs : List ℕ) → slice_split sep (first_line xs) ≡ take_while (is_inside sep) xs ∷ parts_behind sep
+      (skip_while (is_inside sep) xs)
   first_part [] = refl
   first_part (x ∷ xs) = ⊎_elim
       (λ (l : is_line_feed x ≡ true). at_end x xs l)
@@ -60,7 +65,8 @@ module _ (sep : ℕ → Bool) (apart : (x : ℕ) → is_line_feed x ≡ true →
       (λ (s : sep x ≡ true). at_separator x xs l s)
       (λ (s : sep x ≡ false).
       ap (slice_split sep) (line_more x xs l) ∙ split_no sep x (first_line xs) s ∙ ap (onto_first x) (first_part xs)
-      ∙ sym (ap (λ ys. ys ∷ parts_behind sep (skip_while (is_inside sep) (x ∷ xs))) (take_yes (is_inside sep) x xs (inside_yes x s l))
+      ∙ sym (ap (λ ys. ys ∷ parts_behind sep (skip_while (is_inside sep) (x ∷ xs)))
+      (take_yes (is_inside sep) x xs (inside_yes x s l))
       ∙ ap (λ ys. (x ∷ take_while (is_inside sep) xs) ∷ parts_behind sep ys) (skip_yes (is_inside sep) x xs (inside_yes x s l))))
       (cases_Bool (sep x)))
       (cases_Bool (is_line_feed x))
@@ -78,7 +84,8 @@ module _ (p : ℕ → Bool) (within : (x : ℕ) → p x ≡ true → is_line_fee
   pub list_any-skip_while : (xs : List ℕ) → list_any is_line_feed (skip_while p xs) ≡ list_any is_line_feed xs
   list_any-skip_while [] = refl
   list_any-skip_while (x ∷ xs) = ⊎_elim
-      (λ (h : p x ≡ true). ap (list_any is_line_feed) (skip_yes p x xs h) ∙ list_any-skip_while xs ∙ sym (ap (λ b. b || list_any is_line_feed xs) (within x h)))
+      (λ (h : p x ≡ true). ap (list_any is_line_feed) (skip_yes p x xs h) ∙ list_any-skip_while xs
+      ∙ sym (ap (λ b. b || list_any is_line_feed xs) (within x h)))
       (λ (h : p x ≡ false). ap (list_any is_line_feed) (skip_no p x xs h))
       (cases_Bool (p x))
 

@@ -20,7 +20,8 @@ digit_small c h = let r = digit_range c h in let v = digit_value_digit c r in om
 
 pub all_digits : (ds : List ℕ) → list_all is_ascii_digit ds ≡ true → AllDigits 10 ds
 all_digits [] h = tt
-all_digits (c ∷ cs) h = let p = and_parts (is_ascii_digit c) (list_all is_ascii_digit cs) h in (digit_small c p.0, all_digits cs p.1)
+all_digits (c ∷ cs) h = let p = and_parts (is_ascii_digit c) (list_all is_ascii_digit cs) h in
+    (digit_small c p.0, all_digits cs p.1)
 
 -- 18 digits write a number below 10 ^ 18
 pub digits_bound : (ds : List ℕ) → list_all is_ascii_digit ds ≡ true → length ds ≤ 18 → digits_value 10 ds < 1000000000000000000
@@ -38,13 +39,16 @@ two_tests true b o = refl
 two_tests false b o = refl
 
 magnitude_is : (ds : List ℕ) → magnitude_in ds ≡ cond (is_magnitude ds) (Some (digits_value 10 ds)) None
-magnitude_is ds = two_tests (nat_le (length ds) 18) (nat_lt 0 (length ds) && (nat_le (length ds) 19 && list_all is_ascii_digit ds)) (Some (digits_value 10 ds))
+magnitude_is ds = two_tests (nat_le (length ds) 18) (nat_lt 0 (length ds) && (nat_le (length ds) 19 && list_all is_ascii_digit ds))
+    (Some (digits_value 10 ds))
 
-pub magnitude_some : (ds : List ℕ) → 0 < length ds → length ds ≤ 18 → list_all is_ascii_digit ds ≡ true → magnitude_in ds ≡ Some (digits_value 10 ds)
+pub magnitude_some : (ds : List ℕ) → 0 < length ds → length ds ≤ 18 → list_all is_ascii_digit ds ≡ true
+    → magnitude_in ds ≡ Some (digits_value 10 ds)
 magnitude_some ds some few all =
     let wide : length ds ≤ 19 = omega arith in
     magnitude_is ds ∙ cond-true (is_magnitude ds) (Some (digits_value 10 ds)) None
-    (and_from (nat_le (length ds) 18) (nat_lt 0 (length ds) && (nat_le (length ds) 19 && list_all is_ascii_digit ds)) (le-leb (length ds) 18 few)
+    (and_from (nat_le (length ds) 18) (nat_lt 0 (length ds) && (nat_le (length ds) 19 && list_all is_ascii_digit ds))
+    (le-leb (length ds) 18 few)
     (and_from (nat_lt 0 (length ds)) (nat_le (length ds) 19 && list_all is_ascii_digit ds) (lt-ltb 0 (length ds) some)
     (and_from (nat_le (length ds) 19) (list_all is_ascii_digit ds) (le-leb (length ds) 19 wide) all)))
 
@@ -60,41 +64,53 @@ refused ds h = magnitude_is ds ∙ cond-false (is_magnitude ds) (Some (digits_va
 pub magnitude_empty : (ds : List ℕ) → length ds ≡ 0 → magnitude_in ds ≡ None
 magnitude_empty ds none =
     let few : length ds ≤ 0 = omega arith in
-    refused ds (second (nat_le (length ds) 18) (nat_lt 0 (length ds)) (nat_le (length ds) 19) (list_all is_ascii_digit ds) (le-ltb 0 (length ds) few))
+    refused ds (second (nat_le (length ds) 18) (nat_lt 0 (length ds)) (nat_le (length ds) 19) (list_all is_ascii_digit ds)
+    (le-ltb 0 (length ds) few))
 
 pub magnitude_long : (ds : List ℕ) → 18 < length ds → magnitude_in ds ≡ None
-magnitude_long ds long = refused ds (and_left (nat_le (length ds) 18) (nat_lt 0 (length ds) && (nat_le (length ds) 19 && list_all is_ascii_digit ds)) (lt-leb (length ds) 18 long))
+magnitude_long ds long = refused ds
+    (and_left (nat_le (length ds) 18) (nat_lt 0 (length ds) && (nat_le (length ds) 19 && list_all is_ascii_digit ds))
+    (lt-leb (length ds) 18 long))
 
 pub magnitude_mixed : (ds : List ℕ) → list_all is_ascii_digit ds ≡ false → magnitude_in ds ≡ None
-magnitude_mixed ds mixed = refused ds (fourth (nat_le (length ds) 18) (nat_lt 0 (length ds)) (nat_le (length ds) 19) (list_all is_ascii_digit ds) mixed)
+magnitude_mixed ds mixed = refused ds
+    (fourth (nat_le (length ds) 18) (nat_lt 0 (length ds)) (nat_le (length ds) 19) (list_all is_ascii_digit ds) mixed)
 
 digits_in_words : (c : ℕ) → is_ascii_digit c ≡ true → is_in_word c ≡ true
 digits_in_words c h = grind (arith, nat_tests)
 
 -- a word whose digits are none, too many, or not all of it is no number
-pub magnitude_cut_short : (bs : List ℕ) → begins_with is_in_word (skip_while is_ascii_digit bs) ≡ true → magnitude_in (take_while is_in_word bs) ≡ None
+pub magnitude_cut_short : (bs : List ℕ) → begins_with is_in_word (skip_while is_ascii_digit bs) ≡ true
+    → magnitude_in (take_while is_in_word bs) ≡ None
 magnitude_cut_short bs h =
     let digits = take_while is_ascii_digit bs in
     let rest = skip_while is_ascii_digit bs in
     let more = take_while is_in_word rest in
     ap magnitude_in (front_wider is_ascii_digit is_in_word digits_in_words bs) ∙ magnitude_mixed (digits ++ more)
-    (list_all-append is_ascii_digit digits more ∙ and_right (list_all is_ascii_digit digits) (list_all is_ascii_digit more) (front_mixed is_ascii_digit is_in_word rest (begins_with-skip_while is_ascii_digit bs) h))
+    (list_all-append is_ascii_digit digits more
+    ∙ and_right (list_all is_ascii_digit digits) (list_all is_ascii_digit more)
+    (front_mixed is_ascii_digit is_in_word rest (begins_with-skip_while is_ascii_digit bs) h))
 
-word_of_digits : (bs : List ℕ) → begins_with is_in_word (skip_while is_ascii_digit bs) ≡ false → take_while is_in_word bs ≡ take_while is_ascii_digit bs
+word_of_digits : (bs : List ℕ) → begins_with is_in_word (skip_while is_ascii_digit bs) ≡ false
+    → take_while is_in_word bs ≡ take_while is_ascii_digit bs
 word_of_digits bs ends =
     let digits = take_while is_ascii_digit bs in
-    front_wider is_ascii_digit is_in_word digits_in_words bs ∙ ap (λ ys. digits ++ ys) (front_none is_in_word (skip_while is_ascii_digit bs) ends) ∙ append-nil digits
+    front_wider is_ascii_digit is_in_word digits_in_words bs
+    ∙ ap (λ ys. digits ++ ys) (front_none is_in_word (skip_while is_ascii_digit bs) ends) ∙ append-nil digits
 
-pub magnitude_refused : (bs : List ℕ) → magnitude_in (take_while is_ascii_digit bs) ≡ None → magnitude_in (take_while is_in_word bs) ≡ None
+pub magnitude_refused : (bs : List ℕ) → magnitude_in (take_while is_ascii_digit bs) ≡ None
+    → magnitude_in (take_while is_in_word bs) ≡ None
 magnitude_refused bs none = ⊎_elim
     (λ (h : begins_with is_in_word (skip_while is_ascii_digit bs) ≡ true). magnitude_cut_short bs h)
     (λ (h : begins_with is_in_word (skip_while is_ascii_digit bs) ≡ false). ap magnitude_in (word_of_digits bs h) ∙ none)
     (cases_Bool (begins_with is_in_word (skip_while is_ascii_digit bs)))
 
 -- a word of 1 to 18 digits is the number that they write, which no cut changes
-pub magnitude_taken : (bs : List ℕ) → 0 < length (take_while is_ascii_digit bs) → length (take_while is_ascii_digit bs) ≤ 18 → begins_with is_in_word (skip_while is_ascii_digit bs) ≡ false
+pub magnitude_taken : (bs : List ℕ) → 0 < length (take_while is_ascii_digit bs) → length (take_while is_ascii_digit bs) ≤ 18
+    → begins_with is_in_word (skip_while is_ascii_digit bs) ≡ false
     → (magnitude_in (take_while is_in_word bs) ≡ Some (min (digits_value 10 (take_while is_ascii_digit bs)) 1000000000000000000))
-    × (skip_while is_ascii_digit bs ≡ skip_while is_in_word bs) × (min (digits_value 10 (take_while is_ascii_digit bs)) 1000000000000000000 < 1000000000000000000)
+    × (skip_while is_ascii_digit bs ≡ skip_while is_in_word bs) ×
+    (min (digits_value 10 (take_while is_ascii_digit bs)) 1000000000000000000 < 1000000000000000000)
 magnitude_taken bs some few ends =
     let digits = take_while is_ascii_digit bs in
     let rest = skip_while is_ascii_digit bs in

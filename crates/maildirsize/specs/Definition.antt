@@ -50,7 +50,7 @@ limits_named members = record { octets = limit_named 83 members; count = limit_n
 abbrev pub limits_in : List (List ℕ) → Option LimitNumbers
 limits_in texts = if list_all is_member texts then Some (limits_named (filter_map member_in texts)) else None
 
--- where the first wrong text begins_with, with a comma behind each text
+-- where the first wrong text begins, with a comma behind each text
 abbrev pub wrong_text_in : List (List ℕ) → Option ℕ
 wrong_text_in texts =
     let right = prefix_len is_member texts in

@@ -1,4 +1,5 @@
--- A ledger text as it is read: fewer than 5120 bytes, a definition line, and sum lines (Maildir++, in a lenient profile).
+-- A ledger text as it is read: fewer than 5120 bytes, a definition line, and sum lines (Maildir++, in a lenient
+-- profile).
 use Rattle.std.specs.Prelude.{◌≡◌, ◌<◌, ℕ, ◌+◌, ◌-◌, nat_lt, nat_le, if◌then◌else◌, List, [], ◌∷◌, length, map, Option, Some, None, option_map}
 use Rattle.std.specs.Option.{option_or}
 use Rattle.std.specs.List.{prefix_len}
@@ -33,13 +34,15 @@ SumsUp bytes ledger = (pairs : List Pair) × Reads bytes ledger.limits pairs × 
 
 -- the first line that is no sum line; the definition is line 1
 abbrev pub line_fault : List (List ℕ) → Option LedgerFault
-line_fault sums = let right = prefix_len is_sum_line sums in if nat_lt right (length sums) then Some (BadLine (right + 2)) else None
+line_fault sums =
+    let right = prefix_len is_sum_line sums in
+    if nat_lt right (length sums) then Some (BadLine (right + 2)) else None
 
 -- a rest that no line feed ends, by the place at which it begins
 abbrev pub rest_fault : ℕ → List ℕ → Option LedgerFault
 rest_fault len rest = if nat_lt 0 (length rest) then Some (Torn (len - length rest)) else None
 
--- the fault of the definition, of the sum lines and of the rest, in this order
+-- the fault of the definition, of the sum lines and of the rest, in this order; a text with no line is torn at 0
 abbrev pub fault_in : ℕ → List (List ℕ) → List ℕ → Option LedgerFault
 fault_in len [] rest = Some (Torn 0)
 fault_in len (definition ∷ sums) rest =
@@ -47,4 +50,6 @@ fault_in len (definition ∷ sums) rest =
 
 -- the first fault of a text
 abbrev pub fault_of : List ℕ → Option LedgerFault
-fault_of bytes = if nat_le 5120 (length bytes) then Some (TooLong (length bytes)) else fault_in (length bytes) (lines_in bytes) (rest_in bytes)
+fault_of bytes =
+    if nat_le 5120 (length bytes) then Some (TooLong (length bytes))
+    else fault_in (length bytes) (lines_in bytes) (rest_in bytes)

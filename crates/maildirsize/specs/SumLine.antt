@@ -50,4 +50,6 @@ is_in_word b = not (is_space b || is_line_feed b)
 -- the pair of the sum line that the bytes begin with, and what stands behind its line feed
 abbrev pub sum_line_at : List ℕ → Option (Pair × List ℕ)
 sum_line_at bytes =
-    if list_any is_line_feed bytes then option_map (λ pair. (pair, after_first is_line_feed bytes)) (pair_in (first_line bytes)) else None
+    if list_any is_line_feed bytes
+    then option_map (λ pair. (pair, after_first is_line_feed bytes)) (pair_in (first_line bytes))
+    else None

@@ -43,7 +43,8 @@ pub fn definition_of(bytes: &[u8]) -> Option<Limits>
 /// The offset at which the line's first wrong member begins.
 pub(crate) fn leading_definition(bytes: &[u8]) -> Result<(Option<u64>, Option<u64>, &[u8]), usize>
     ensures limits { MatchResult result
-        (λ r. (definition_in (first_line bytes.now) ≡ Some (record { octets = r.0; count = r.1 })) × (r.2.now ≡ skip_while is_in_line bytes.now))
+        (λ r. (definition_in (first_line bytes.now) ≡ Some (record { octets = r.0; count = r.1 }))
+        × (r.2.now ≡ skip_while is_in_line bytes.now))
         (λ at. wrong_member_in (first_line bytes.now) ≡ Some at) }
     ensures octets { IfOk result (λ r. IfSome r.0 IsLimit) }
     ensures count { IfOk result (λ r. IfSome r.1 IsLimit) }
@@ -71,7 +72,8 @@ pub(crate) fn limits_from(octets: Option<u64>, count: Option<u64>) -> Limits
 /// The offset at which the first wrong member begins.
 fn leading_members(bytes: &[u8]) -> Result<(Option<u64>, Option<u64>, &[u8]), usize>
     ensures limits { MatchResult result
-        (λ r. (limits_in (member_texts_at bytes.now) ≡ Some (record { octets = r.0; count = r.1 })) × (r.2.now ≡ skip_while is_in_line bytes.now))
+        (λ r. (limits_in (member_texts_at bytes.now) ≡ Some (record { octets = r.0; count = r.1 }))
+        × (r.2.now ≡ skip_while is_in_line bytes.now))
         (λ at. wrong_text_in (member_texts_at bytes.now) ≡ Some at) }
     ensures octets { IfOk result (λ r. IfSome r.0 IsLimit) }
     ensures count { IfOk result (λ r. IfSome r.1 IsLimit) }
@@ -96,7 +98,8 @@ fn leading_members(bytes: &[u8]) -> Result<(Option<u64>, Option<u64>, &[u8]), us
 /// no member stands there.
 fn leading_member(bytes: &[u8]) -> Option<(Member, &[u8])>
     ensures member { MatchOption result (member_in (take_while is_in_member bytes.now) ≡ None)
-        (λ r. (member_in (take_while is_in_member bytes.now) ≡ Some r.0) × (r.1.now ≡ skip_while is_in_member bytes.now)) }
+        (λ r. (member_in (take_while is_in_member bytes.now) ≡ Some r.0)
+        × (r.1.now ≡ skip_while is_in_member bytes.now)) }
     ensures limit { IfSome result (λ r. IfSome r.0.limit IsLimit) }
 {
     let (number, rest) = leading_digits(bytes);

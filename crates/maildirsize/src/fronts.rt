@@ -25,7 +25,8 @@ pub(crate) fn leading_digits(bytes: &[u8]) -> (u64, &[u8])
 
 /// The bytes behind this byte, where they begin with it.
 pub(crate) fn behind_byte(bytes: &[u8], byte: u8) -> Option<&[u8]>
-    ensures { MatchOption result (begins_with (λ b. b == byte) bytes.now ≡ false) (λ rest. bytes.now ≡ byte ∷ rest.now) }
+    ensures { MatchOption result (begins_with (λ b. b == byte) bytes.now ≡ false)
+        (λ rest. bytes.now ≡ byte ∷ rest.now) }
 {
     match bytes {
         [first, rest @ ..] if *first == byte => Some(rest),

@@ -6,7 +6,7 @@ pub fn one_reading()
 {}
 
 /// A law: a written ledger that is shorter than 5120 bytes, and whose numbers are below 10^18 in magnitude, reads
-/// as the limits and pairs that were written_ledger, and as no others.
+/// as the limits and pairs that were written, and as no others.
 pub fn written_reads_back()
     ensures { WrittenReadsBack }
 {}

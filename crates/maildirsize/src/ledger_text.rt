@@ -59,7 +59,8 @@ pub fn read_ledger(bytes: &[u8]) -> Result<LedgerText, LedgerFault>
     // What is read is a ledger, and these are its limits, its number of sum lines and their sums.
     ensures readable { IfOk result (SumsUp bytes.now) }
     // Each ledger is read, with these limits and pairs.
-    ensures only { (limits : LimitNumbers) (pairs : List Pair) → Reads bytes.now limits pairs → IsOkAnd result (λ ledger. ledger ≡ summary limits pairs) }
+    ensures only { (limits : LimitNumbers) (pairs : List Pair) → Reads bytes.now limits pairs
+        → IsOkAnd result (λ ledger. ledger ≡ summary limits pairs) }
     // What is refused has this fault first, and what has a fault is refused.
     ensures fault { result_err result ≡ fault_of bytes.now }
 {
@@ -85,7 +86,8 @@ pub fn read_ledger(bytes: &[u8]) -> Result<LedgerText, LedgerFault>
 fn read_summed(limits: Limits, text_length: usize, bytes: &[u8]) -> Result<LedgerText, LedgerFault>
     requires within { length bytes.now ≤ text_length }
     requires short { text_length < FULL }
-    ensures fault { result_err result ≡ option_or (line_fault (lines_in bytes.now)) (rest_fault text_length (rest_in bytes.now)) }
+    ensures fault { result_err result
+        ≡ option_or (line_fault (lines_in bytes.now)) (rest_fault text_length (rest_in bytes.now)) }
     ensures ledger { IfOk result (λ ledger. ledger ≡ summary limits (pairs_in (lines_in bytes.now))) }
 {
     let mut lines = 0;
@@ -111,7 +113,8 @@ fn read_summed(limits: Limits, text_length: usize, bytes: &[u8]) -> Result<Ledge
 
 /// The fault of a text whose definition has a wrong member at this offset.
 fn definition_fault(bytes: &[u8], at: usize) -> LedgerFault
-    ensures { result ≡ (if list_any is_line_feed bytes.now then LedgerFault.BadDefinition at else LedgerFault.Torn 0) }
+    ensures { result
+        ≡ (if list_any is_line_feed bytes.now then LedgerFault.BadDefinition at else LedgerFault.Torn 0) }
 {
     if bytes.contains(&b'\n') {
         LedgerFault::BadDefinition { at }
@@ -122,7 +125,8 @@ fn definition_fault(bytes: &[u8], at: usize) -> LedgerFault
 
 /// The fault of a line that is no sum line with its line feed: its number, or the offset at which it begins.
 fn sum_line_fault(bytes: &[u8], line: u32, at: usize) -> LedgerFault
-    ensures { result ≡ (if list_any is_line_feed bytes.now then LedgerFault.BadLine line else LedgerFault.Torn at) }
+    ensures { result
+        ≡ (if list_any is_line_feed bytes.now then LedgerFault.BadLine line else LedgerFault.Torn at) }
 {
     if bytes.contains(&b'\n') {
         LedgerFault::BadLine { line }

@@ -7,7 +7,7 @@ use quota_units::{Limits, Totals};
 
 /// Sets the text to the written definition of the limits, such as `10000000S,1000C`; `0S` where none is set.
 ///
-/// It has no line feed.
+/// It has no line feed (Maildir++).
 pub fn print_definition(limits: &Limits, out: &mut Text)
     ensures { out.new ≡ written_definition limits.now }
 {
@@ -25,10 +25,13 @@ pub fn print_line(octets: i64, count: i64, out: &mut Text)
 }
 
 /// Sets the text to a whole ledger: the written definition of the limits, and one sum line of the totals.
+///
+/// Each of its two lines has a line feed.
 pub fn print_folded(limits: &Limits, totals: &Totals, out: &mut Text)
     requires octets { totals.now.octets < 2 ^ 63 }
     requires count { totals.now.count < 2 ^ 63 }
-    ensures { out.new ≡ written_ledger limits.now (record { octets = pos totals.now.octets; count = pos totals.now.count } ∷ []) }
+    ensures { out.new
+        ≡ written_ledger limits.now (record { octets = pos totals.now.octets; count = pos totals.now.count } ∷ []) }
 {
     out.clear();
     push_definition(limits, out);

@@ -33,7 +33,8 @@ fn behind_spaces(bytes: &[u8]) -> &[u8]
 /// The integer that is the first word of the bytes, and the bytes behind it; `None` where that word is no integer.
 fn leading_integer(bytes: &[u8]) -> Option<(i64, &[u8])>
     ensures integer { MatchOption result (integer_in (take_while is_in_word bytes.now) ≡ None)
-        (λ r. (integer_in (take_while is_in_word bytes.now) ≡ Some r.0) × (r.1.now ≡ skip_while is_in_word bytes.now)) }
+        (λ r. (integer_in (take_while is_in_word bytes.now) ≡ Some r.0)
+        × (r.1.now ≡ skip_while is_in_word bytes.now)) }
     ensures small { IfSome result (λ r. unsigned_abs r.0 < CUT) }
 {
     match behind_byte(bytes, b'-') {
@@ -52,7 +53,8 @@ fn leading_integer(bytes: &[u8]) -> Option<(i64, &[u8])>
 /// is no such number.
 fn leading_magnitude(bytes: &[u8]) -> Option<(u64, &[u8])>
     ensures number { MatchOption result (magnitude_in (take_while is_in_word bytes.now) ≡ None)
-        (λ r. (magnitude_in (take_while is_in_word bytes.now) ≡ Some r.0) × (r.1.now ≡ skip_while is_in_word bytes.now)) }
+        (λ r. (magnitude_in (take_while is_in_word bytes.now) ≡ Some r.0)
+        × (r.1.now ≡ skip_while is_in_word bytes.now)) }
     ensures small { IfSome result (λ r. r.0 < CUT) }
 {
     let (number, rest) = leading_digits(bytes);

@@ -47,10 +47,6 @@ fn readable_ledgers_are_summed_up(rt: HostRuntime) -> Result<(), Fail> {
             b"1S\n999999999999999999 -999999999999999999\n000000000000000001 1\n",
             ledger(Some(1), None, 2, 1000000000000000000, -999999999999999998),
         ),
-        (
-            b"1S\n999999999999999999 0\n999999999999999999 0\n999999999999999999 0\n999999999999999999 0\n999999999999999999 0\n999999999999999999 0\n999999999999999999 0\n999999999999999999 0\n999999999999999999 0\n999999999999999999 0\n",
-            ledger(Some(1), None, 10, 9999999999999999990, 0),
-        ),
     ] {
         assert_eq!(rt; Some(read_ledger(text)?), wanted);
     }
@@ -121,6 +117,23 @@ fn a_ledger_has_fewer_than_5120_bytes(rt: HostRuntime) -> Result<(), Fail> {
             wanted
         );
     }
+    Ok(())
+}
+
+#[test]
+fn sums_go_beyond_64_bits(rt: HostRuntime) -> Result<(), Fail> {
+    let mut text = b"1S\n".to_vec(rt.alloc())?;
+    for _ in 0..20 {
+        text.extend_from_slice(b"999999999999999999 -999999999999999999\n")?;
+    }
+    let wanted = ledger(
+        Some(1),
+        None,
+        20,
+        19999999999999999980,
+        -19999999999999999980,
+    );
+    assert_eq!(rt; Some(read_ledger(text.as_slice())?), wanted);
     Ok(())
 }
 

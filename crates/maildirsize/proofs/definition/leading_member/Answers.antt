@@ -43,5 +43,9 @@ returns-clause-member c =
     let some : 0 < length (take_while is_ascii_digit bytes) = omega (arith, lengths, rest, shorter) in
     let alphabetic = sym c.is_ascii_alphabetic.ensures.value ∙ c.if-not-is_ascii_alphabetic.false in
     let ends = sym c.is_within_member.ensures ∙ c.if-is_within_member.false in
-    let limit = c.limit_of-limit.ensures.value ∙ ap limit_of c.leading_digits-number.ensures.number ∙ limit_cut (digits_value 10 (take_while is_ascii_digit bytes)) in
-    (member_read bytes letter next found some alphabetic ends ∙ ap (λ l. Some (member_with letter l)) (sym limit), member_behind bytes letter next found some alphabetic ends)
+    let limit = c.limit_of-limit.ensures.value ∙ ap limit_of c.leading_digits-number.ensures.number
+    ∙ limit_cut (digits_value 10 (take_while is_ascii_digit bytes)) in (
+      member_read bytes letter next found some alphabetic ends
+          ∙ ap (λ l. Some (member_with letter l)) (sym limit),
+      member_behind bytes letter next found some alphabetic ends,
+    )

@@ -8,17 +8,24 @@ use Rattle.maildirsize.proofs.ledger_text.read_ledger.Goals as goal
 pub returns-in-Some-clause-readable : goal.returns-in-Some-clause-readable
 returns-in-Some-clause-readable c =
     let short : length c.args.bytes.now < 5120 = omega arith in
-    let found : skip_while is_in_line c.args.bytes.now ≡ 10 ∷ c.in-Some.sums.now = sym c.in-Ok.ensures.limits.1 ∙ c.in-Some.ensures in
-    reads_as c.args.bytes.now c.in-Some.sums.now c.limits_from.result c.read_summed.result short (c.in-Ok.ensures.limits.0 ∙ ap Some (sym c.limits_from.ensures)) found c.read_summed.ensures.fault c.read_summed.ensures.ledger
+    let found : skip_while is_in_line c.args.bytes.now ≡ 10 ∷ c.in-Some.sums.now = sym c.in-Ok.ensures.limits.1
+    ∙ c.in-Some.ensures in
+    reads_as c.args.bytes.now c.in-Some.sums.now c.limits_from.result c.read_summed.result short
+    (c.in-Ok.ensures.limits.0 ∙ ap Some
+    (sym c.limits_from.ensures)) found c.read_summed.ensures.fault c.read_summed.ensures.ledger
 
 pub returns-in-Some-clause-fault : goal.returns-in-Some-clause-fault
 returns-in-Some-clause-fault c =
     let short : length c.args.bytes.now < 5120 = omega arith in
-    let found : skip_while is_in_line c.args.bytes.now ≡ 10 ∷ c.in-Some.sums.now = sym c.in-Ok.ensures.limits.1 ∙ c.in-Some.ensures in
-    c.read_summed.ensures.fault ∙ sym (fault_of_sums c.args.bytes.now c.in-Some.sums.now c.limits_from.result short (c.in-Ok.ensures.limits.0 ∙ ap Some (sym c.limits_from.ensures)) found)
+    let found : skip_while is_in_line c.args.bytes.now ≡ 10 ∷ c.in-Some.sums.now = sym c.in-Ok.ensures.limits.1
+    ∙ c.in-Some.ensures in
+    c.read_summed.ensures.fault ∙ sym
+    (fault_of_sums c.args.bytes.now c.in-Some.sums.now c.limits_from.result short
+    (c.in-Ok.ensures.limits.0 ∙ ap Some (sym c.limits_from.ensures)) found)
 
 pub returns-in-Some-clause-only : goal.returns-in-Some-clause-only
-returns-in-Some-clause-only c = read_exactly c.args.bytes.now c.read_summed.result (returns-in-Some-clause-fault c) (returns-in-Some-clause-readable c)
+returns-in-Some-clause-only c = read_exactly c.args.bytes.now c.read_summed.result (returns-in-Some-clause-fault c)
+    (returns-in-Some-clause-readable c)
 
 pub returns-in-None-clause-fault : goal.returns-in-None-clause-fault
 returns-in-None-clause-fault c =

@@ -8,7 +8,8 @@ pub returns-in_default-clause-fault : goal.returns-in_default-clause-fault
 returns-in_default-clause-fault c =
     let rest = c.loop-rest.rest.now in
     let some : 0 < length rest = grind (arith, nat_tests) in
-    ap Some c.sum_line_fault.ensures ∙ sym (sums_fault c.args.bytes.now rest c.loop-rest.lines _ _ c.loop-rest.invariant.read c.args.text_length c.in_default.ensures.line some)
+    ap Some c.sum_line_fault.ensures
+    ∙ sym (sums_fault c.args.bytes.now rest c.loop-rest.lines _ _ c.loop-rest.invariant.read c.args.text_length c.in_default.ensures.line some)
 
 pub loop-rest-smaller : goal.loop-rest-smaller
 loop-rest-smaller c =

@@ -17,7 +17,8 @@ returns-then-length-eq0-clause-number c =
       | then-length-eq0-via-then-length-eq0 w ↦ magnitude_refused bytes (magnitude_empty digits (omega arith))
       | then-length-eq0-via-else-length-eq0+then-length-gt18 w ↦ magnitude_refused bytes (magnitude_long digits (omega arith))
       | then-length-eq0-via-else-length-eq0+else-length-gt18+then-is_within_word w ↦
-          magnitude_cut_short bytes (ap (begins_with is_in_word) (sym c.leading_digits-number.ensures.rest) ∙ sym w.is_within_word.ensures ∙ w.if-is_within_word.true)
+          magnitude_cut_short bytes (ap (begins_with is_in_word) (sym c.leading_digits-number.ensures.rest)
+          ∙ sym w.is_within_word.ensures ∙ w.if-is_within_word.true)
     ]
 
 pub returns : goal.returns
@@ -26,5 +27,14 @@ returns c =
     let digits = take_while is_ascii_digit bytes in
     let lengths = length-take_while is_ascii_digit bytes in
     let rest = ap length c.leading_digits-number.ensures.rest in
-    let taken = magnitude_taken bytes (omega arith) (omega arith) (ap (begins_with is_in_word) (sym c.leading_digits-number.ensures.rest) ∙ sym c.is_within_word.ensures ∙ c.if-is_within_word.false) in
-    record { number = (taken.0 ∙ ap Some (sym c.leading_digits-number.ensures.number), c.leading_digits-number.ensures.rest ∙ taken.1); small = omega (arith, taken.2, c.leading_digits-number.ensures.number) }
+    let taken = magnitude_taken bytes (omega arith) (omega arith)
+    (ap (begins_with is_in_word) (sym c.leading_digits-number.ensures.rest) ∙ sym c.is_within_word.ensures
+    ∙ c.if-is_within_word.false) in
+    record {
+      number = (
+        taken.0 ∙ ap Some (sym c.leading_digits-number.ensures.number),
+        c.leading_digits-number.ensures.rest
+            ∙ taken.1,
+      );
+      small = omega (arith, taken.2, c.leading_digits-number.ensures.number);
+    }

@@ -12,12 +12,14 @@ returns-in_err-octets-clause-line c =
 
 pub returns-in_err-count-clause-line : goal.returns-in_err-count-clause-line
 returns-in_err-count-clause-line c =
-    rw c.from_residual-in_err-count.ensures (second_none c.args.bytes.now c.behind_spaces.result.now c.in_ok-octets.rest.now c.behind_spaces-2.result.now c.in_ok-octets.octets
+    rw c.from_residual-in_err-count.ensures
+    (second_none c.args.bytes.now c.behind_spaces.result.now c.in_ok-octets.rest.now c.behind_spaces-2.result.now c.in_ok-octets.octets
     c.behind_spaces.ensures c.in_ok-octets.ensures.integer.0 c.in_ok-octets.ensures.integer.1 c.behind_spaces-2.ensures c.in_err-count.ensures.integer)
 
 pub returns-in_err-rest-clause-line : goal.returns-in_err-rest-clause-line
 returns-in_err-rest-clause-line c =
-    rw c.from_residual-in_err-rest.ensures (line_none c.args.bytes.now c.behind_spaces.result.now c.in_ok-octets.rest.now c.behind_spaces-2.result.now c.in_ok-octets.octets
+    rw c.from_residual-in_err-rest.ensures
+    (line_none c.args.bytes.now c.behind_spaces.result.now c.in_ok-octets.rest.now c.behind_spaces-2.result.now c.in_ok-octets.octets
     c.behind_spaces.ensures c.in_ok-octets.ensures.integer.0 c.in_ok-octets.ensures.integer.1 c.behind_spaces-2.ensures
     c.in_ok-count.rest.now c.behind_spaces-3.result.now c.in_ok-count.count c.in_ok-count.ensures.integer.0 c.in_ok-count.ensures.integer.1 c.behind_spaces-3.ensures
     c.in_err-rest.ensures)
