@@ -1,0 +1,12 @@
+ghost use Rattle.maildirsize.specs.Laws.{OneReading, WrittenReadsBack};
+
+/// A law: a text is a ledger of one list of limits and pairs at most.
+pub fn one_reading()
+    ensures { OneReading }
+{}
+
+/// A law: a written ledger that is shorter than 5120 bytes, and whose numbers are below 10^18 in magnitude, reads
+/// as the limits and pairs that were written, and as no others.
+pub fn written_reads_back()
+    ensures { WrittenReadsBack }
+{}
