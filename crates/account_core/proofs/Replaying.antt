@@ -1,29 +1,32 @@
 -- The account that a history makes.
-use Rattle.std.proofs.Common.{◌≡◌, Bool, true, false, List, [], ◌∷◌, refl, ◌∙◌, ap, if◌then◌else◌}
+use Rattle.std.proofs.Common.{◌≡◌, false, ℕ, List, [], ◌∷◌, ◌++◌, refl, ◌∙◌, ap}
 use Rattle.quota_roots.specs.declared.root.RootSpec.{RootSpec}
 use Rattle.account_core.specs.declared.calls.Call.{Call}
-use Rattle.account_core.specs.declared.calls.Call.TheVariants.{Quota}
+use Rattle.account_core.specs.declared.calls.Call.TheVariants.{Quota, SetLimits, Roots}
 use Rattle.account_core.specs.declared.calls.Entry.{Entry}
 use Rattle.account_core.specs.Account.{Account}
 use Rattle.account_core.specs.Machine.{step, reply_of}
-use Rattle.account_core.specs.History.{replay, reply}
-use Rattle.account_core.specs.Plain.{plain_opened, plain_reply}
+use Rattle.account_core.specs.History.{replay, reply, entry_of, account_after}
+use Rattle.account_core.specs.Plain.{plain_root, plain_account, plain_opened, plain_reply, plain_limits}
 use Rattle.quota_units.specs.Limiting.{LimitNumbers}
 
-step_still : (roots : List RootSpec) (account : Account) (call : Call) → step roots account call ≡ account
-step_still roots account (Quota name) = refl
+-- one entry more
+pub replay_more : (roots : List RootSpec) (account : Account) (history : List Entry) (entry : Entry) → replay roots account (history ++ entry ∷ []) ≡ account_after roots (replay roots account history) entry
+replay_more roots account [] entry = refl
+replay_more roots account (first ∷ history) entry = replay_more roots (account_after roots account first) history entry
 
-either_still : (fault : Bool) (account after : Account) → after ≡ account → (if fault then account else after) ≡ account
-either_still true account after e = refl
-either_still false account after e = e
+-- while the root has these limits
+pub plain_replies : (opening limits : LimitNumbers) (history : List Entry) (call : Call) → replay (plain_root ∷ []) (plain_account opening) history ≡ plain_account limits → reply (plain_opened opening) history call ≡ plain_reply call limits
+plain_replies opening limits history call e = ap (λ a. reply_of (plain_root ∷ []) a call) e
 
--- calls that only look leave the account as it was opened
-pub replay_still : (roots : List RootSpec) (account : Account) (history : List Entry) → replay roots account history ≡ account
-replay_still roots account [] = refl
-replay_still roots account (entry ∷ entries) =
-    ap (λ a. replay roots a entries) (either_still entry.fault account (step roots account entry.call) (step_still roots account entry.call)) ∙ replay_still roots account entries
+step_plain : (limits : LimitNumbers) (call : Call) → step (plain_root ∷ []) (plain_account limits) call ≡ plain_account (plain_limits call limits)
+step_plain limits (Quota name) = refl
+step_plain limits (SetLimits [] others) = refl
+step_plain limits (SetLimits (b ∷ name) others) = refl
+step_plain limits (Roots mailbox) = refl
 
-pub plain_still : (limits : LimitNumbers) (history : List Entry) (call : Call) → reply (plain_opened limits) history call ≡ plain_reply call limits
-plain_still limits history call =
-    let opened = plain_opened limits in
-    ap (λ a. reply_of opened.roots a call) (replay_still opened.roots opened.account history)
+-- a call without fault
+pub plain_goes_on : (opening limits : LimitNumbers) (history : List Entry) (caller : ℕ) (call : Call) → replay (plain_root ∷ []) (plain_account opening) history ≡ plain_account limits
+    → replay (plain_root ∷ []) (plain_account opening) (history ++ entry_of caller call false ∷ []) ≡ plain_account (plain_limits call limits)
+plain_goes_on opening limits history caller call e =
+    replay_more (plain_root ∷ []) (plain_account opening) history (entry_of caller call false) ∙ (ap (λ a. step (plain_root ∷ []) a call) e ∙ step_plain limits call)

@@ -1,12 +1,14 @@
 -- The account machine: what each call is answered, and the account after it.
-use Rattle.std.specs.Prelude.{ℕ, ◌+◌, List, [], ◌∷◌, Option, Some, None, bytes_eq, find}
+use Rattle.std.specs.Prelude.{ℕ, ◌+◌, List, [], ◌∷◌, Option, Some, None, bytes_eq, find, filter, map, set}
 use Rattle.quota_units.specs.Limiting.{LimitNumbers}
 use Rattle.quota_roots.specs.declared.root.RootSpec.{RootSpec}
 use Rattle.account_core.specs.declared.calls.Call.{Call}
-use Rattle.account_core.specs.declared.calls.Call.TheVariants.{Quota as QuotaCall}
+use Rattle.account_core.specs.declared.calls.Call.TheVariants.{Quota as QuotaCall, SetLimits, Roots as RootsCall}
 use Rattle.account_core.specs.declared.calls.RootRow.{RootRow}
 use Rattle.account_core.specs.declared.calls.Reply.{Reply}
-use Rattle.account_core.specs.declared.calls.Reply.TheVariants.{NoRoot, Quota}
+use Rattle.account_core.specs.declared.calls.Reply.TheVariants.{NoRoot, Quota, LimitsSet, Roots}
+use Rattle.quota_roots.specs.Governing.{governs}
+use Rattle.quota_roots.specs.RootLists.{place_of}
 use Rattle.account_core.specs.Account.{Account, usage}
 
 -- a root's number, usage and limits
@@ -22,14 +24,36 @@ rows_from account number (root ∷ roots) (own ∷ limits) = (root, row_of accou
 abbrev pub rows : List RootSpec → Account → List (RootSpec × RootRow)
 rows roots account = rows_from account 0 roots account.limits
 
+-- the root of this name, with its row
+abbrev pub named : List RootSpec → Account → List ℕ → Option (RootSpec × RootRow)
+named roots account name = find (λ x. bytes_eq x.0.name name) (rows roots account)
+
 abbrev pub quota_reply : Option (RootSpec × RootRow) → Reply
 quota_reply None = NoRoot
 quota_reply (Some (root, row)) = Quota row
 
+-- the row after the change
+abbrev pub limits_reply : LimitNumbers → Option (RootSpec × RootRow) → Reply
+limits_reply limits None = NoRoot
+limits_reply limits (Some (root, row)) = LimitsSet (record row { limits = limits })
+
+-- the rows of the roots that govern the mailbox, in order
+abbrev pub governing_rows : List RootSpec → Account → List ℕ → List RootRow
+governing_rows roots account mailbox = map (λ x. x.1) (filter (λ x. governs x.0 mailbox) (rows roots account))
+
 -- what the account answers
 abbrev pub reply_of : List RootSpec → Account → Call → Reply
-reply_of roots account (QuotaCall name) = quota_reply (find (λ x. bytes_eq x.0.name name) (rows roots account))
+reply_of roots account (QuotaCall name) = quota_reply (named roots account name)
+reply_of roots account (SetLimits name limits) = limits_reply limits (named roots account name)
+reply_of roots account (RootsCall mailbox) = Roots (governing_rows roots account mailbox)
+
+-- the limits of each root, where the root at this place has these now
+abbrev pub limits_after : Option ℕ → LimitNumbers → List LimitNumbers → List LimitNumbers
+limits_after None limits all = all
+limits_after (Some at) limits all = set all at limits
 
 -- the account after the call
 abbrev pub step : List RootSpec → Account → Call → Account
 step roots account (QuotaCall name) = account
+step roots account (SetLimits name limits) = record account { limits = limits_after (place_of roots name) limits account.limits }
+step roots account (RootsCall mailbox) = account

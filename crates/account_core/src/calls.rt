@@ -1,6 +1,7 @@
 ghost use Rattle.std.specs.Prelude.{◌≡◌};
 ghost use Rattle.account_core.specs.declared.calls.StepError.TheVariants.{NoMemory};
 
+use crate::RootRows;
 use quota_units::{Limits, Name};
 use std::alloc::{AllocError, AllocFailed};
 use thiserror::Error;
@@ -10,6 +11,10 @@ use thiserror::Error;
 pub enum Call {
     /// The usage and the limits of the root of this name.
     Quota { root: Name },
+    /// The root of this name has these limits from now on; those that are not set here are removed.
+    SetLimits { root: Name, limits: Limits },
+    /// The roots that govern the mailbox of this name, which need not exist.
+    Roots { mailbox: Name },
 }
 
 /// A root's number, its usage in octets and messages, and its limits.
@@ -22,12 +27,16 @@ pub struct RootRow {
 }
 
 /// What the account machine answers.
-#[derive(Clone, Copy, Debug, PartialEq, Eq)]
+#[derive(Debug, Drop)]
 pub enum Reply {
     /// No root has that name.
     NoRoot,
     /// The named root, as it is.
     Quota(RootRow),
+    /// The named root, with its new limits.
+    LimitsSet(RootRow),
+    /// The roots that govern the mailbox, in order.
+    Roots(RootRows),
 }
 
 /// One call in the history of an account: who made it, and whether a fault of the store took its effect.

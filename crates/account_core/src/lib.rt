@@ -3,9 +3,11 @@
 
 mod calls;
 mod plain;
+mod rows;
 
 pub use calls::{Call, Entry, Reply, RootRow, StepError};
 pub use plain::PlainAccount;
+pub use rows::RootRows;
 
 #[cfg(test)]
 mod tests;

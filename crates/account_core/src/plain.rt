@@ -1,10 +1,10 @@
 ghost use Rattle.std.specs.Prelude.{◌≡◌, ◌≢◌, ◌≤◌, ◌↔◌, [], length, IsOk, IfOk, IsErrOf};
 ghost use Rattle.account_core.specs.History.{Serves};
-ghost use Rattle.account_core.specs.Plain.{plain_opened, plain_reply};
+ghost use Rattle.account_core.specs.Plain.{plain_opened, plain_reply, plain_limits};
 
-use crate::{Call, Entry, Reply, RootRow, StepError};
+use crate::{Call, Entry, Reply, RootRow, RootRows, StepError};
 use quota_units::{Limits, Name, NoMemory};
-use std::alloc::Global;
+use std::alloc::{AllocError, Global};
 use std::marker::Model;
 
 /// The most entries of a plain account's history.
@@ -14,20 +14,22 @@ pub const PLAIN_JOURNAL: u32 = 65536;
 /// It has the mailboxes INBOX and Trash, and no message.
 #[derive(Debug, Drop)]
 pub struct PlainAccount {
+    opening: Limits,
     limits: Limits,
     history: Vec<Entry>,
 }
 
 impl Model for PlainAccount {
-    ghost use Rattle.std.specs.Prelude.{◌≤◌, length};
-    ghost use Rattle.account_core.specs.History.{Book};
-    ghost use Rattle.account_core.specs.Plain.{plain_opened};
+    ghost use Rattle.std.specs.Prelude.{◌≡◌, ◌≤◌, ◌∷◌, [], length};
+    ghost use Rattle.account_core.specs.History.{Book, replay};
+    ghost use Rattle.account_core.specs.Plain.{plain_root, plain_account, plain_opened};
 
     ghost Value = { Book };
 
-    ghost view = { λ a. record { opened = plain_opened a.limits; history = a.history.items } };
+    ghost view = { λ a. record { opened = plain_opened a.opening; history = a.history.items } };
 
-    ghost invariant = { λ a. length a.history.items ≤ 65536 };
+    ghost invariant = { λ a. (length a.history.items ≤ 65536)
+        × (replay (plain_root ∷ []) (plain_account a.opening) a.history.items ≡ plain_account a.limits) };
 }
 
 impl PlainAccount {
@@ -38,6 +40,7 @@ impl PlainAccount {
         ensures fresh { IfOk result (λ account. account.history ≡ []) }
     {
         Ok(PlainAccount {
+            opening: limits,
             limits,
             history: Vec::new(alloc),
         })
@@ -48,8 +51,8 @@ impl PlainAccount {
     /// # Errors
     ///
     /// `JournalFull` where the history holds 65536 entries, and `NoMemory`; both leave the history as it was.
-    #[tactic(auto, using(crate::proofs::Replaying::plain_still))]
-    pub fn serve(&mut self, _alloc: Global, call: Call) -> Result<Reply, StepError>
+    #[tactic(auto, using(crate::proofs::Replaying::plain_replies, crate::proofs::Replaying::plain_goes_on))]
+    pub fn serve(&mut self, alloc: Global, call: Call) -> Result<Reply, StepError>
         ensures opened { self.new.opened ≡ self.old.opened }
         ensures serves { Serves self.old.opened 0 self.old.history call result self.new.history }
         ensures within { length self.new.history ≤ self.new.opened.journal }
@@ -61,28 +64,59 @@ impl PlainAccount {
                 limit: PLAIN_JOURNAL,
             });
         }
-        let reply = answer(&call, self.limits);
+        let reply = answer(alloc, &call, self.limits)?;
+        let limits = limits_after(&call, self.limits);
         self.history.push(Entry {
             caller: 0,
             call,
             fault: false,
         })?;
+        self.limits = limits;
         Ok(reply)
     }
 }
 
 /// What the machine answers, where the one root has the empty name and no message counts.
-fn answer(call: &Call, limits: Limits) -> Reply
-    ensures { result ≡ plain_reply call.now limits }
+fn answer(alloc: Global, call: &Call, limits: Limits) -> Result<Reply, AllocError>
+    ensures { IfOk result (λ reply. reply ≡ plain_reply call.now limits) }
 {
-    let Call::Quota { root } = call;
-    if !root.as_slice().is_empty() {
-        return Reply::NoRoot;
+    match call {
+        Call::Quota { root } if root.as_slice().is_empty() => Ok(Reply::Quota(row(limits))),
+        Call::SetLimits { root, limits } if root.as_slice().is_empty() => {
+            Ok(Reply::LimitsSet(row(*limits)))
+        }
+        Call::Quota { .. } | Call::SetLimits { .. } => Ok(Reply::NoRoot),
+        Call::Roots { mailbox } => {
+            let mut rows = RootRows::new(alloc);
+            if mailbox.as_slice() != b"Trash".as_slice() {
+                rows.push(row(limits))?;
+            }
+            Ok(Reply::Roots(rows))
+        }
     }
-    Reply::Quota(RootRow {
+}
+
+/// The limits after a call.
+fn limits_after(call: &Call, limits: Limits) -> Limits
+    ensures { result ≡ plain_limits call.now limits }
+{
+    match call {
+        Call::SetLimits {
+            root,
+            limits: others,
+        } if root.as_slice().is_empty() => *others,
+        _ => limits,
+    }
+}
+
+/// The one root with these limits.
+fn row(limits: Limits) -> RootRow
+    ensures { result ≡ record { root = 0; octets = 0; count = 0; limits = limits } }
+{
+    RootRow {
         root: 0,
         octets: 0,
         count: 0,
         limits,
-    })
+    }
 }

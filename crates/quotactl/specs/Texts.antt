@@ -3,7 +3,7 @@ use Rattle.std.specs.Prelude.{ℕ, List, [], ◌++◌, codes, Option, None, Some
 use Rattle.std.specs.Fmt.{decimal}
 use Rattle.quota_units.specs.Units.{units_of}
 use Rattle.account_core.specs.declared.calls.RootRow.{RootRow}
-use Rattle.account_core.specs.declared.calls.Reply.TheVariants.{NoRoot, Quota}
+use Rattle.account_core.specs.declared.calls.Reply.TheVariants.{NoRoot, Quota, LimitsSet, Roots}
 use Rattle.account_core.specs.History.{Answer, replied, store, journal_full}
 
 abbrev pub line_end : List ℕ
@@ -35,12 +35,14 @@ resources octets count (Some most) (Some limit) = storage octets most ++ (codes 
 abbrev pub quota_line : RootRow → List ℕ
 quota_line row = codes "* QUOTA \"\" (" ++ (resources row.octets row.count row.limits.octets row.limits.count ++ (codes ")" ++ line_end))
 
--- the answer to GETQUOTA
+-- the answer to GETQUOTA; the last two replies are those of other calls, and it has none of them
 abbrev pub quota_text : List ℕ → Answer → List ℕ
 quota_text tag (replied (Quota row)) = quota_line row ++ tagged_line tag (codes "OK GETQUOTA completed")
 quota_text tag (replied NoRoot) = tagged_line tag (codes "NO No such quota root")
 quota_text tag store = tagged_line tag (codes "NO [UNAVAILABLE] Store unavailable")
 quota_text tag journal_full = tagged_line tag (codes "NO [LIMIT] Journal full")
+quota_text tag (replied (LimitsSet row)) = []
+quota_text tag (replied (Roots rows)) = []
 
 -- the answer to LOGOUT
 abbrev pub logout_text : List ℕ → List ℕ

@@ -92,6 +92,7 @@ pub fn push_quota(out: &mut Vec<u8>, tag: &[u8], reply: &Reply) -> Result<(), Al
             push_quota_line(out, row)?;
             push_tagged(out, tag, b"OK GETQUOTA completed")
         }
+        Reply::LimitsSet(_) | Reply::Roots(_) => Ok(()),
     }
 }
 

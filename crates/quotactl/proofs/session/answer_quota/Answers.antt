@@ -14,8 +14,8 @@ returns-in-Ok-push_quota-clause-ok c =
       owns_call c.args.account.now c.serve.new.self (Quota c.args.root) answer c.in-Ok.ensures.opened c.in-Ok.ensures.serves (replied_never c.in-Ok.reply),
     )
 
-pub returns-in-Err-clause-err : goal.returns-in-Err-clause-err
-returns-in-Err-clause-err c =
+pub returns-in-Ok-clause-err : goal.returns-in-Ok-clause-err
+returns-in-Ok-clause-err c =
     let answer = replied c.in-Ok.reply in
     leaves_called c.args.account.now c.serve.new.self c.args.root answer
     (owns_call c.args.account.now c.serve.new.self (Quota c.args.root) answer c.in-Ok.ensures.opened c.in-Ok.ensures.serves (replied_never c.in-Ok.reply))
