@@ -16,8 +16,9 @@ fn row(limits: Limits) -> RootRow {
 /// The limits of the root of this name, as the account tells them.
 fn quota(alloc: Global, account: &mut PlainAccount, name: &[u8]) -> Result<Option<RootRow>, Fail> {
     let root = Name::of(alloc, name)?;
-    match account.serve(alloc, Call::Quota { root })? {
-        Reply::Quota(row) => Ok(Some(row)),
+    let reply = account.serve(alloc, Call::Quota { root })?;
+    match &reply {
+        Reply::Quota(row) => Ok(Some(*row)),
         Reply::NoRoot => Ok(None),
         _ => Err("a reply of another call".into()),
     }
@@ -45,10 +46,11 @@ fn new_limits_replace_all_limits(rt: HostRuntime) -> Result<(), Fail> {
             root: Name::of(alloc, name)?,
             limits: others,
         };
-        match account.serve(alloc, call)? {
+        let reply = account.serve(alloc, call)?;
+        match &reply {
             Reply::LimitsSet(set) => {
                 assert!(rt; is_known, "{name:?}");
-                assert_eq!(rt; set, row(others), "{name:?}");
+                assert_eq!(rt; *set, row(others), "{name:?}");
             }
             Reply::NoRoot => assert!(rt; !is_known, "{name:?}"),
             _ => return Err("a reply of another call".into()),
@@ -76,7 +78,8 @@ fn the_root_governs_all_mailboxes_but_trash(rt: HostRuntime) -> Result<(), Fail>
     ];
     for (name, rows) in table {
         let mailbox = Name::of(alloc, name)?;
-        match account.serve(alloc, Call::Roots { mailbox })? {
+        let reply = account.serve(alloc, Call::Roots { mailbox })?;
+        match &reply {
             Reply::Roots(given) => assert_eq!(rt; given.as_slice(), rows, "{name:?}"),
             _ => return Err("a reply of another call".into()),
         }

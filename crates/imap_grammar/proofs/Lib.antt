@@ -1,3 +1,4 @@
+pub mod Escaping
 pub mod Many
 pub mod Tags
 pub mod Table

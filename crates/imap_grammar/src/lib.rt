@@ -4,9 +4,11 @@
 mod command;
 mod kind;
 mod parts;
+mod print;
 mod readers;
 
 pub use command::{Command, CommandFault, read_command, read_tagged};
+pub use print::push_astring;
 
 #[cfg(test)]
 mod tests;

@@ -1,5 +1,5 @@
 // Lines that are commands, and lines that are none.
-use super::{Command, CommandFault, read_command};
+use super::{Command, CommandFault, push_astring, read_command};
 use std::test::Fail;
 
 #[test]
@@ -43,6 +43,29 @@ fn a_tag_has_1_to_64_bytes(rt: HostRuntime) -> Result<(), Fail> {
         line.extend_from_slice(b" LOGOUT\r\n")?;
         let read = read_command(rt.alloc(), &line, true);
         assert_eq!(rt; read.is_ok(), length <= 64, "{length} bytes");
+    }
+    Ok(())
+}
+
+#[test]
+fn names_are_printed_plainly_quoted_or_as_literals(rt: HostRuntime) -> Result<(), Fail> {
+    let table: [(&[u8], &[u8]); 11] = [
+        (b"", b"\"\""),
+        (b"INBOX", b"INBOX"),
+        (b"Lists.rattle+", b"Lists.rattle+"),
+        (b"]", b"]"),
+        (b"My folder", b"\"My folder\""),
+        (b"50%", b"\"50%\""),
+        (b"a\"b", b"\"a\\\"b\""),
+        (b"a\\b", b"\"a\\\\b\""),
+        (b"a\x7fb", b"{3}\r\na\x7fb"),
+        (b"\r\n", b"{2}\r\n\r\n"),
+        (b"\xc3\xa4 \"1234567", b"{11}\r\n\xc3\xa4 \"1234567"),
+    ];
+    for (name, printed) in table {
+        let mut out = Vec::new(rt.alloc());
+        push_astring(&mut out, name)?;
+        assert_eq!(rt; out.as_slice(), printed, "{name:?}");
     }
     Ok(())
 }

@@ -2,6 +2,7 @@
 use Rattle.std.specs.Prelude.{ℕ, List, [], ◌++◌, codes, Option, None, Some}
 use Rattle.std.specs.Fmt.{decimal}
 use Rattle.quota_units.specs.Units.{units_of}
+use Rattle.imap_grammar.specs.Printing.{printed}
 use Rattle.account_core.specs.declared.calls.RootRow.{RootRow}
 use Rattle.account_core.specs.declared.calls.Reply.TheVariants.{NoRoot, Quota, LimitsSet, Roots}
 use Rattle.account_core.specs.History.{Answer, replied, store, journal_full}
@@ -31,13 +32,14 @@ resources octets count (Some limit) None = storage octets limit
 resources octets count None (Some limit) = message count limit
 resources octets count (Some most) (Some limit) = storage octets most ++ (codes " " ++ message count limit)
 
--- the row of the root with the empty name
-abbrev pub quota_line : RootRow → List ℕ
-quota_line row = codes "* QUOTA \"\" (" ++ (resources row.octets row.count row.limits.octets row.limits.count ++ (codes ")" ++ line_end))
+-- the row of the root of this name
+abbrev pub quota_line : List ℕ → RootRow → List ℕ
+quota_line name row =
+    codes "* QUOTA " ++ (printed name ++ (codes " (" ++ (resources row.octets row.count row.limits.octets row.limits.count ++ (codes ")" ++ line_end))))
 
--- the answer to GETQUOTA; the last two replies are those of other calls, and it has none of them
+-- the answer to GETQUOTA, where the one root has the empty name; the last two replies are those of other calls, and it has none of them
 abbrev pub quota_text : List ℕ → Answer → List ℕ
-quota_text tag (replied (Quota row)) = quota_line row ++ tagged_line tag (codes "OK GETQUOTA completed")
+quota_text tag (replied (Quota row)) = quota_line [] row ++ tagged_line tag (codes "OK GETQUOTA completed")
 quota_text tag (replied NoRoot) = tagged_line tag (codes "NO No such quota root")
 quota_text tag store = tagged_line tag (codes "NO [UNAVAILABLE] Store unavailable")
 quota_text tag journal_full = tagged_line tag (codes "NO [LIMIT] Journal full")

@@ -5,6 +5,7 @@ ghost use Rattle.quotactl.specs.Texts.{resource, storage, message, resources, qu
 ghost use Rattle.account_core.specs.History.{replied, journal_full, store};
 
 use account_core::{Reply, RootRow, StepError};
+use imap_grammar::push_astring;
 use itoa::Buffer;
 use quota_units::units_up;
 use std::alloc::AllocError;
@@ -73,11 +74,13 @@ fn push_resources(out: &mut Vec<u8>, row: &RootRow) -> Result<(), AllocError>
     }
 }
 
-/// The untagged line of a root.
-fn push_quota_line(out: &mut Vec<u8>, row: &RootRow) -> Result<(), AllocError>
-    ensures { OnOk result (out.new.items ≡ out.old.items ++ quota_line row.now) }
+/// The untagged line of the root of this name.
+fn push_quota_line(out: &mut Vec<u8>, name: &[u8], row: &RootRow) -> Result<(), AllocError>
+    ensures { OnOk result (out.new.items ≡ out.old.items ++ quota_line name.now row.now) }
 {
-    out.extend_from_slice(b"* QUOTA \"\" (")?;
+    out.extend_from_slice(b"* QUOTA ")?;
+    push_astring(out, name)?;
+    out.extend_from_slice(b" (")?;
     push_resources(out, row)?;
     out.extend_from_slice(b")\r\n")
 }
@@ -89,7 +92,7 @@ pub fn push_quota(out: &mut Vec<u8>, tag: &[u8], reply: &Reply) -> Result<(), Al
     match reply {
         Reply::NoRoot => push_tagged(out, tag, b"NO No such quota root"),
         Reply::Quota(row) => {
-            push_quota_line(out, row)?;
+            push_quota_line(out, b"", row)?;
             push_tagged(out, tag, b"OK GETQUOTA completed")
         }
         Reply::LimitsSet(_) | Reply::Roots(_) => Ok(()),

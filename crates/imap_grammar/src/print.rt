@@ -1,0 +1,83 @@
+// How names are printed: plainly, quoted, or as a literal.
+ghost use Rattle.std.specs.Prelude.{◌≡◌, ◌++◌, OnOk};
+ghost use Rattle.std.specs.List.{flat_map, list_all};
+ghost use Rattle.imap_grammar.specs.Bytes.{is_astring_byte};
+ghost use Rattle.imap_grammar.specs.Printing.{escaped, is_plain, is_visible_text, printed};
+
+use crate::readers::is_tag_byte;
+use itoa::Buffer;
+use std::alloc::AllocError;
+
+/// Whether a name stands plainly with this byte (RFC 9051, section 9: ASTRING-CHAR).
+fn is_astring_byte(byte: u8) -> bool
+    ensures { result ≡ is_astring_byte byte }
+{
+    byte == b'+' || is_tag_byte(byte)
+}
+
+/// Whether all bytes are those that stand plainly, and there is one.
+fn is_plain(bytes: &[u8]) -> bool
+    ensures { result ≡ is_plain bytes.now }
+{
+    !bytes.is_empty() && may_stand(bytes)
+}
+
+/// Whether all bytes are those that stand plainly.
+fn may_stand(bytes: &[u8]) -> bool
+    ensures { result ≡ list_all is_astring_byte bytes.now }
+{
+    bytes.iter().all(|b| is_astring_byte(*b))
+}
+
+/// Whether all bytes are printing ASCII or spaces.
+fn is_visible_text(bytes: &[u8]) -> bool
+    ensures { result ≡ is_visible_text bytes.now }
+{
+    bytes.iter().all(|b| (32..=126).contains(b))
+}
+
+/// A byte, with `\` before `"` and `\`.
+fn push_escaped_byte(out: &mut Vec<u8>, byte: u8) -> Result<(), AllocError>
+    ensures { OnOk result (out.new.items ≡ out.old.items ++ escaped byte) }
+{
+    if byte == b'"' || byte == b'\\' {
+        out.push(b'\\')?;
+    }
+    out.push(byte)?;
+    Ok(())
+}
+
+/// The bytes, each so.
+#[tactic(auto, using(crate::proofs::Escaping::escaped_none, crate::proofs::Escaping::escaped_more, crate::proofs::Escaping::escaped_all))]
+fn push_escaped(out: &mut Vec<u8>, bytes: &[u8]) -> Result<(), AllocError>
+    ensures { OnOk result (out.new.items ≡ out.old.items ++ flat_map escaped bytes.now) }
+{
+    for (i, b) in bytes.iter().enumerate() {
+        push_escaped_byte(out, *b)?;
+    }
+    Ok(())
+}
+
+/// Appends a name of a quota root or a mailbox as a client reads it (RFC 9051, section 9: astring): plainly where all its
+/// bytes may stand so, quoted where they are printing ASCII and spaces, and else as a literal.
+///
+/// # Errors
+///
+/// There was no memory. Some of the text may be appended.
+pub fn push_astring(out: &mut Vec<u8>, bytes: &[u8]) -> Result<(), AllocError>
+    ensures { OnOk result (out.new.items ≡ out.old.items ++ printed bytes.now) }
+{
+    if is_plain(bytes) {
+        return out.extend_from_slice(bytes);
+    }
+    if is_visible_text(bytes) {
+        out.push(b'"')?;
+        push_escaped(out, bytes)?;
+        out.push(b'"')?;
+        return Ok(());
+    }
+    out.push(b'{')?;
+    out.extend_from_slice(Buffer::new().format(bytes.len()).as_bytes())?;
+    out.extend_from_slice(b"}\r\n")?;
+    out.extend_from_slice(bytes)
+}
