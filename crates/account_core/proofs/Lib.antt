@@ -1,2 +1,3 @@
+pub mod OneRoot
 pub mod Replaying
 pub mod Logging

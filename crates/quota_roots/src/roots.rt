@@ -1,13 +1,13 @@
 ghost use Rattle.std.specs.Prelude.{◌≡◌, ◌≤◌, ◌<◌, ◌↔◌, ℕ, length, position, All, Contains, IfSome, IsTrue, IfOk, IsErrOf, vec_len, codes, bytes_eq};
 ghost use Rattle.std.specs.List.{list_all};
 ghost use Rattle.quota_roots.specs.Governing.{governs_at, governing};
-ghost use Rattle.quota_roots.specs.MailboxNames.{is_printable};
+ghost use Rattle.quota_units.specs.Bytes.{is_printable};
 ghost use Rattle.quota_roots.specs.RootLists.{first_bad_name, first_double, has_name, is_prefix_at, is_root_at, is_root_name, name_at, place_of, AreRoots, IsBadName, IsDouble, IsTooMany};
 
-use super::mailbox::{is_mailbox_name, is_printable};
+use super::mailbox::is_mailbox_name;
 use super::root::RootSpec;
 use super::root_set::RootSet;
-use quota_units::Name;
+use quota_units::{Name, is_printable};
 use std::marker::Model;
 use thiserror::Error;
 
