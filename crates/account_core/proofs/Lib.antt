@@ -1,3 +1,2 @@
-pub mod OneRoot
 pub mod Replaying
 pub mod Logging

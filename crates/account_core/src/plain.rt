@@ -1,9 +1,9 @@
-ghost use Rattle.std.specs.Prelude.{◌≡◌, ◌≢◌, ◌≤◌, ◌↔◌, [], ◌∷◌, length, IfOk, IsErrOf};
+ghost use Rattle.std.specs.Prelude.{◌≡◌, ◌≢◌, ◌≤◌, ◌↔◌, [], ◌∷◌, length, IsOk, IfOk, IsErrOf};
+ghost use Rattle.quota_roots.specs.RootLists.{name_at};
 ghost use Rattle.account_core.specs.History.{Serves};
 ghost use Rattle.account_core.specs.Plain.{plain_root, plain_opened, plain_reply, plain_limits};
 
 use crate::{Call, Entry, Reply, RootRow, RootRows, StepError};
-use quota_roots::{RootSpec, Roots};
 use quota_units::{Limits, Name, NoMemory};
 use std::alloc::{AllocError, Global};
 use std::marker::Model;
@@ -15,7 +15,6 @@ pub const PLAIN_JOURNAL: u32 = 65536;
 /// It has the mailboxes INBOX and Trash, and no message.
 #[derive(Debug, Drop)]
 pub struct PlainAccount {
-    roots: Roots,
     opening: Limits,
     limits: Limits,
     history: Vec<Entry>,
@@ -30,30 +29,29 @@ impl Model for PlainAccount {
 
     ghost view = { λ a. record { opened = plain_opened a.opening; history = a.history.items } };
 
-    ghost invariant = { λ a. (a.roots ≡ plain_root ∷ []) × (length a.history.items ≤ 65536)
+    ghost invariant = { λ a. (length a.history.items ≤ 65536)
         × (replay (plain_root ∷ []) (plain_account a.opening) a.history.items ≡ plain_account a.limits) };
 }
 
 impl PlainAccount {
     /// An account whose root has these limits.
     pub fn new(alloc: Global, limits: Limits) -> Result<PlainAccount, NoMemory>
+        ensures always { IsOk result }
         ensures opened { IfOk result (λ account. account.opened ≡ plain_opened limits) }
         ensures fresh { IfOk result (λ account. account.history ≡ []) }
     {
         Ok(PlainAccount {
-            roots: plain_roots(alloc)?,
             opening: limits,
             limits,
             history: Vec::new(alloc),
         })
     }
 
-    /// The account's roots: the one with the empty name.
-    pub fn roots(&self) -> &Roots
-        ensures opened { result.now ≡ self.now.opened.roots }
-        ensures plain { result.now ≡ plain_root ∷ [] }
+    /// The name of the root of this number, which is empty; the number of no root has none.
+    pub fn root_name(&self, root: u32) -> &[u8]
+        ensures { result.now ≡ name_at (plain_root ∷ []) root }
     {
-        &self.roots
+        b""
     }
 
     /// Answers a call of the account's owner, who is caller 0.
@@ -83,21 +81,6 @@ impl PlainAccount {
         })?;
         self.limits = limits;
         Ok(reply)
-    }
-}
-
-/// The one root, which has the empty name and no prefix.
-fn plain_roots(alloc: Global) -> Result<Roots, NoMemory>
-    ensures { IfOk result (λ roots. roots ≡ plain_root ∷ []) }
-{
-    let Ok(name) = Name::of(alloc, b"") else {
-        return Err(NoMemory);
-    };
-    let mut specs = Vec::new(alloc);
-    specs.push(RootSpec { name, prefix: None })?;
-    match Roots::new(specs) {
-        Ok(roots) => Ok(roots),
-        Err(_) => unreachable!(),
     }
 }
 
