@@ -2,3 +2,4 @@ pub mod Units
 pub mod Limiting
 pub mod Digits
 pub mod Resources
+pub mod Flagging
