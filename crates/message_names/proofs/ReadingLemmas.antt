@@ -108,6 +108,10 @@ named_over (x ∷ xs) ys h =
 cut_twice : (n : ℕ) → cut (cut n) ≡ cut n
 cut_twice n = omega arith
 
+same_message : (a b : List ℕ) (m n : ℕ) (f g : Flags) → a ≡ b → m ≡ n → f ≡ g
+    → ◌≡◌ {A = FileMessage} (record { base = a; octets = m; flags = f }) (record { base = b; octets = n; flags = g })
+same_message a b m n f g p q r = cc
+
 -- a base, a size and flags that are written
 module _ (base : List ℕ) (size : ℕ) (flags : Flags) (right : is_base base ≡ true) (small : size < 2 ^ 64) where
   digits : list_all is_ascii_digit (decimal size) ≡ true
@@ -144,24 +148,25 @@ module _ (base : List ℕ) (size : ℕ) (flags : Flags) (right : is_base base �
   unique_back : unique_of (written_name base size flags) ≡ unique
   unique_back = ap unique_of apart ∙ (flags_read unique plain flags).0
 
-  message : (b : List ℕ) (n : ℕ) (f : Flags) → base ≡ b → cut size ≡ n → flags ≡ f
-      → ◌≡◌ {A = FileMessage} (record { base = b; octets = n; flags = f }) (record { base = base; octets = cut size; flags = flags })
-  message b n f p q r = cc
-
   pub written_back : (length : ℕ)
       → message_of (written_name base size flags) length ≡ record { base = base; octets = cut size; flags = flags }
-  written_back length = message _ _ _
-      (sym (ap (before_first is_comma) unique_back ∙ before_at is_comma base 44 (codes "S=" ++ decimal size) no_comma refl))
-      (sym (ap (λ u. size_or (size_named u) length) unique_back ∙ ap (λ o. size_or o length) named ∙ cut_twice size))
-      (sym (ap flags_of apart ∙ (flags_read unique plain flags).1))
+  written_back length = same_message _ _ _ _ _ _
+      (ap (before_first is_comma) unique_back ∙ before_at is_comma base 44 (codes "S=" ++ decimal size) no_comma refl)
+      (ap (λ u. size_or (size_named u) length) unique_back ∙ ap (λ o. size_or o length) named ∙ cut_twice size)
+      (ap flags_of apart ∙ (flags_read unique plain flags).1)
 
 -- a name with new flags
 pub renamed_back : (name : List ℕ) (flags : Flags) → IsRenamed name (renamed name flags) flags
 renamed_back name flags =
     let plain = before_has_none is_colon name in
-    let info = after_at is_colon (unique_of name) 58 (codes "2," ++ (letters_of flags ++ others_of name)) plain refl in
+    let rest = letters_of flags ++ others_of name in
+    let info = after_at is_colon (unique_of name) 58 (codes "2," ++ rest) plain refl in
+    let unique = before_at is_colon (unique_of name) 58 (codes "2," ++ rest) plain refl in
+    let given = ap (λ i. flags_among (behind_two i)) info ∙ flags_back flags (behind_two (info_of name)) in
     record {
-      unique = before_at is_colon (unique_of name) 58 (codes "2," ++ (letters_of flags ++ others_of name)) plain refl;
-      flags = ap (λ i. flags_among (behind_two i)) info ∙ flags_back flags (behind_two (info_of name));
+      unique = unique;
+      flags = given;
       others = ap (λ i. filter (λ b. not (is_flag_letter b)) (behind_two i)) info ∙ others_back flags (behind_two (info_of name));
+      message = λ length. same_message _ _ _ _ _ _ (ap (before_first is_comma) unique)
+          (ap (λ u. size_or (size_named u) length) unique) given;
     }
