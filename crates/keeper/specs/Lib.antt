@@ -1,0 +1,5 @@
+pub mod Causes
+pub mod Files
+pub mod Calls
+pub mod Plan
+pub mod Memory

@@ -1,0 +1,19 @@
+//! What keeps the files of an account: the traits of a keeper and of the stores that keepers come from, and both in memory.
+#![tactic(auto)]
+
+mod bytes;
+mod failed;
+mod files;
+mod keeper;
+mod kept;
+mod ledger;
+mod memory;
+mod plan;
+mod rows;
+
+pub use bytes::Bytes;
+pub use failed::{Failed, KeepError};
+pub use keeper::Keeper;
+pub use memory::MemKeeper;
+pub use plan::{CallCounts, KeepCall, KeepFail};
+pub use rows::{FileRow, StoreRow};
