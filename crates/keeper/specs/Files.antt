@@ -59,3 +59,7 @@ ledger_bytes files root = bytes_of (ledger_at files root)
 -- the ledgers of four roots: these, and none for each that is missing
 abbrev pub four_ledgers : {A : Type 0} → List (Option (Vec ℕ A)) → List (Option (List ℕ))
 four_ledgers given = map (option_map (λ bytes. bytes.items)) given ++ replicate (4 - length given) None
+
+-- no message file, and no ledger
+abbrev pub no_files : Files
+no_files = record { rows = []; ledgers = None ∷ None ∷ None ∷ None ∷ [] }

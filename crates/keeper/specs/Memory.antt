@@ -1,5 +1,5 @@
 -- Keepers in memory.
-use Rattle.std.specs.Prelude.{ℕ, List, [], None, ◌∷◌, length}
+use Rattle.std.specs.Prelude.{ℕ, List, length, Option}
 use Rattle.keeper.specs.Files.{Files}
 use Rattle.keeper.specs.Calls.{Told}
 use Rattle.keeper.specs.Plan.{Planned}
@@ -21,6 +21,11 @@ pub record SafeKeeper : Type 0 where
 abbrev pub told_safely : SafeKeeper → Told
 told_safely keeper = record { files = keeper.files; due = 0 }
 
--- no message file, and no ledger
-abbrev pub no_files : Files
-no_files = record { rows = []; ledgers = None ∷ None ∷ None ∷ None ∷ [] }
+-- stores of keepers in memory: each account's name and its keeper, where it is not open, and how often a call failed
+pub record MemoryStores : Type 0 where
+  pub accounts : List (List ℕ × Option MemoryKeeper)
+  pub faults : ℕ
+
+-- a keeper whose failures are forgotten
+abbrev pub forgiven : MemoryKeeper → MemoryKeeper
+forgiven keeper = record keeper { plan = record keeper.plan { faults = 0; append_faults = 0 } }

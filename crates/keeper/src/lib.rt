@@ -4,16 +4,20 @@
 mod bytes;
 mod failed;
 mod files;
+mod fixed;
 mod keeper;
 mod kept;
 mod ledger;
 mod memory;
 mod plan;
 mod rows;
+mod stores;
 
 pub use bytes::Bytes;
 pub use failed::{Failed, KeepError};
+pub use fixed::FixedKeeper;
 pub use keeper::Keeper;
 pub use memory::MemKeeper;
 pub use plan::{CallCounts, KeepCall, KeepFail};
 pub use rows::{FileRow, StoreRow};
+pub use stores::Stores;
