@@ -3,6 +3,7 @@ use Rattle.std.proofs.Common.{◌≡◌, ℕ, ◌+◌, ◌<◌, ◌≤◌, Bool,
 use Rattle.std.proofs.lemmas.List.{take_all, append-nil, set_past}
 use Rattle.std.proofs.Math.ListN.{drop_of_length-le}
 use Rattle.std.specs.List.{position_or_len, remove}
+use Rattle.keeper.proofs.PlaceLemmas.{place_is, no_place}
 use Rattle.keeper.specs.Files.{Row, is_named, removed, renamed}
 
 removed_step : (b : Bool) (x : Row) (xs rest : List Row) (k : ℕ) → rest ≡ remove xs k → cond b xs (x ∷ rest) ≡ remove (x ∷ xs) (cond (not b) (1 + k) 0)
@@ -13,14 +14,6 @@ removed_by_place : (mailbox name : List ℕ) (rows : List Row) → removed mailb
 removed_by_place mailbox name [] = refl
 removed_by_place mailbox name (row ∷ rows) =
     removed_step (is_named mailbox name row) row rows (removed mailbox name rows) (position_or_len (is_named mailbox name) rows) (removed_by_place mailbox name rows)
-
-place_is : (b : Bool) (n at : ℕ) → Some at ≡ cond b (Some n) None → at ≡ n
-place_is true n at h = cc
-place_is false n at h = cc
-
-no_place : (n long : ℕ) → None ≡ cond (ltb n long) (Some n) None → long ≤ n
-no_place n long h = let P : Bool → Type 0 = λ b. ltb n long ≡ b → None ≡ cond b (Some n) None → long ≤ n in
-    elim (ltb n long) as P [ true ↦ λ e k. absurd (cc) | false ↦ λ e k. ltb-false n long e ] refl h
 
 pub removed_at : (mailbox name : List ℕ) (rows : List Row) (at : ℕ) → Some at ≡ position (is_named mailbox name) rows → remove rows at ≡ removed mailbox name rows
 removed_at mailbox name rows at found =
