@@ -20,7 +20,7 @@ new_plan fails = record {
   fails = fails;
   made = record { list = 0; put = 0; rename = 0; remove = 0; read_ledger = 0; append_ledger = 0; install_ledger = 0 };
   faults = 0;
-  append_faults = 0
+  append_faults = 0;
 }
 
 -- the row of a kind in the table of calls
@@ -82,7 +82,7 @@ failed kind plan = record {
   fails = fails_left kind plan;
   made = counted kind plan.made;
   faults = if is_append kind then plan.faults else next_count plan.faults;
-  append_faults = if is_append kind then next_count plan.append_faults else plan.append_faults
+  append_faults = if is_append kind then next_count plan.append_faults else plan.append_faults;
 }
 
 -- after the next call of this kind

@@ -61,7 +61,13 @@ impl Keeper for FixedKeeper {
         Ok(self.files.list(alloc, mailbox)?)
     }
 
-    fn put(&mut self, alloc: Global, mailbox: &[u8], name: &[u8], octets: &[u8]) -> Result<(), KeepError>
+    fn put(
+        &mut self,
+        alloc: Global,
+        mailbox: &[u8],
+        name: &[u8],
+        octets: &[u8],
+    ) -> Result<(), KeepError>
         ensures files { Changes (Puts mailbox.now name.now octets.now result) (Some (told_safely self.old)) (Some (told_safely self.new)) }
         ensures cause { HasCause (IsErrOf result KeepError.Failed) 0 0 }
         ensures due { Changes (Spends (IsErrOf result KeepError.Failed) 0 0) (Some (told_safely self.old)) (Some (told_safely self.new)) }
@@ -71,7 +77,14 @@ impl Keeper for FixedKeeper {
         Ok(self.files.put(alloc, mailbox, name, octets)?)
     }
 
-    fn rename(&mut self, alloc: Global, from: &[u8], name: &[u8], to: &[u8], new_name: &[u8]) -> Result<(), KeepError>
+    fn rename(
+        &mut self,
+        alloc: Global,
+        from: &[u8],
+        name: &[u8],
+        to: &[u8],
+        new_name: &[u8],
+    ) -> Result<(), KeepError>
         ensures files { Changes (Renames from.now name.now to.now new_name.now result) (Some (told_safely self.old)) (Some (told_safely self.new)) }
         ensures cause { HasCause (IsErrOf result KeepError.Failed) 0 0 }
         ensures due { Changes (Spends (IsErrOf result KeepError.Failed) 0 0) (Some (told_safely self.old)) (Some (told_safely self.new)) }

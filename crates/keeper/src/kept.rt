@@ -22,12 +22,7 @@ impl Model for KeptRow {
 }
 
 impl KeptRow {
-    fn new(
-        alloc: Global,
-        mailbox: &[u8],
-        name: &[u8],
-        octets: &[u8],
-    ) -> Result<KeptRow, AllocError>
+    fn new(alloc: Global, mailbox: &[u8], name: &[u8], octets: &[u8]) -> Result<KeptRow, AllocError>
         ensures { IfOk result (λ row. row ≡ record { mailbox = mailbox.now; name = name.now; octets = octets.now }) }
     {
         Ok(KeptRow {

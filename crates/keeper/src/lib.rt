@@ -23,3 +23,6 @@ pub use memory::MemKeeper;
 pub use plan::{CallCounts, KeepCall, KeepFail};
 pub use rows::{FileRow, StoreRow};
 pub use stores::Stores;
+
+#[cfg(test)]
+mod tests;

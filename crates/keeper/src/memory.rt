@@ -89,7 +89,13 @@ impl Keeper for MemKeeper {
         Ok(self.files.list(alloc, mailbox)?)
     }
 
-    fn put(&mut self, alloc: Global, mailbox: &[u8], name: &[u8], octets: &[u8]) -> Result<(), KeepError>
+    fn put(
+        &mut self,
+        alloc: Global,
+        mailbox: &[u8],
+        name: &[u8],
+        octets: &[u8],
+    ) -> Result<(), KeepError>
         ensures files { Changes (Puts mailbox.now name.now octets.now result) (Some (told_of self.old)) (Some (told_of self.new)) }
         ensures cause { HasCause (IsErrOf result KeepError.Failed) self.old.plan.faults self.new.plan.faults }
         ensures due { Changes (Spends (IsErrOf result KeepError.Failed) self.old.plan.faults self.new.plan.faults) (Some (told_of self.old)) (Some (told_of self.new)) }
@@ -103,7 +109,14 @@ impl Keeper for MemKeeper {
         Ok(())
     }
 
-    fn rename(&mut self, alloc: Global, from: &[u8], name: &[u8], to: &[u8], new_name: &[u8]) -> Result<(), KeepError>
+    fn rename(
+        &mut self,
+        alloc: Global,
+        from: &[u8],
+        name: &[u8],
+        to: &[u8],
+        new_name: &[u8],
+    ) -> Result<(), KeepError>
         ensures files { Changes (Renames from.now name.now to.now new_name.now result) (Some (told_of self.old)) (Some (told_of self.new)) }
         ensures cause { HasCause (IsErrOf result KeepError.Failed) self.old.plan.faults self.new.plan.faults }
         ensures due { Changes (Spends (IsErrOf result KeepError.Failed) self.old.plan.faults self.new.plan.faults) (Some (told_of self.old)) (Some (told_of self.new)) }

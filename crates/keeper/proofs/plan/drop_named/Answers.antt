@@ -11,5 +11,5 @@ returns-clause-left c = filter_same _ _ _ (λ x b f' k. search rules) _ _ c.reta
 pub returns-clause-fewer : goal.returns-clause-fewer
 returns-clause-fewer c =
     let left : c.retain.new.self.items ≡ filter (λ (f : KeepFail). not (names c.args.kind c.args.nth f)) c.args.fails.now.items =
-        filter_same _ _ _ (λ x b f' k. search rules) _ _ c.retain.ensures.filtered in
+    filter_same _ _ _ (λ x b f' k. search rules) _ _ c.retain.ensures.filtered in
     rw left (fewer_left (names c.args.kind c.args.nth) c.args.fails.now.items c.requires)
