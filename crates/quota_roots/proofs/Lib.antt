@@ -4,3 +4,4 @@ pub mod SetLemmas
 pub mod MailboxLemmas
 pub mod ListLemmas
 pub mod GoverningLemmas
+pub mod SetupLemmas

@@ -2,3 +2,4 @@ pub mod Governing
 pub mod MailboxNames
 pub mod RootLists
 pub mod RootSets
+pub mod Setups

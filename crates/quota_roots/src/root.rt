@@ -1,6 +1,8 @@
-ghost use Rattle.std.specs.Prelude.{◌≡◌};
+ghost use Rattle.std.specs.Prelude.{◌≡◌, IfOk};
 
+use super::lists::copy_name;
 use quota_units::Name;
+use std::alloc::{AllocError, Global};
 
 /// A quota root: its name, and the prefix of the mailboxes that it governs.
 ///
@@ -23,6 +25,18 @@ impl RootSpec {
             None => mailbox != b"Trash".as_slice(),
             Some(prefix) => Self::is_under(prefix.as_slice(), mailbox),
         }
+    }
+
+    /// An equal root.
+    pub(crate) fn copy(&self, alloc: Global) -> Result<RootSpec, AllocError>
+        ensures { IfOk result (λ copy. copy ≡ self.now) }
+    {
+        let name = copy_name(alloc, &self.name)?;
+        let prefix = match &self.prefix {
+            None => None,
+            Some(prefix) => Some(copy_name(alloc, prefix)?),
+        };
+        Ok(RootSpec { name, prefix })
     }
 
     #[tactic(auto, using(crate::proofs::PrefixLemmas::goes_on))]

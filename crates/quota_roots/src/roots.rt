@@ -7,7 +7,8 @@ ghost use Rattle.quota_roots.specs.RootLists.{first_bad_name, first_double, has_
 use super::mailbox::is_mailbox_name;
 use super::root::RootSpec;
 use super::root_set::RootSet;
-use quota_units::{Name, is_printable};
+use quota_units::{Name, NoMemory, is_printable};
+use std::alloc::{AllocError, Global};
 use std::marker::Model;
 use thiserror::Error;
 
@@ -107,6 +108,16 @@ fn roots_of(specs: &[RootSpec], mailbox: &[u8]) -> RootSet
     roots
 }
 
+fn copy_specs(alloc: Global, specs: &[RootSpec]) -> Result<Vec<RootSpec>, AllocError>
+    ensures { IfOk result (λ copy. copy.items ≡ specs.now) }
+{
+    let mut copy = Vec::new(alloc);
+    for spec in specs {
+        copy.push(spec.copy(alloc)?)?;
+    }
+    Ok(copy)
+}
+
 /// The quota roots of an account: 1 to 4, each with a name of its own. Their numbers are their places, from 0 on.
 #[derive(Debug, Drop)]
 pub struct Roots {
@@ -152,6 +163,19 @@ impl Roots {
             return Err(RootsError::Double { at: at as u32 });
         }
         Ok(Roots { specs })
+    }
+
+    /// An equal list of roots.
+    ///
+    /// # Errors
+    ///
+    /// There was no memory.
+    pub fn copy(&self, alloc: Global) -> Result<Roots, NoMemory>
+        ensures { IfOk result (λ copy. copy ≡ self.now) }
+    {
+        Ok(Roots {
+            specs: copy_specs(alloc, &self.specs)?,
+        })
     }
 
     /// How many roots there are: 1 to 4.

@@ -1,5 +1,5 @@
 use super::*;
-use quota_units::{Name, NameError};
+use quota_units::{Limits, Name, NameError};
 use std::alloc::Global;
 use std::test::Fail;
 
@@ -166,5 +166,88 @@ fn the_first_wrong_root_is_named(rt: HostRuntime) -> Result<(), Fail> {
     let only = spec(rt.alloc(), b"", Some(b"Lists"))?;
     let refusal = Roots::new(vec![in rt.alloc(); only]?).err();
     assert_eq!(rt; refusal, Some(RootsError::BadName { at: 0 }));
+    Ok(())
+}
+
+/// A setup with one root without a prefix, so many items of limits, and these mailboxes.
+fn setup(
+    alloc: Global,
+    limits: &[Limits],
+    mailboxes: &[&[u8]],
+    journal: u32,
+) -> Result<Setup, Fail> {
+    let mut names = Vec::new(alloc);
+    for name in mailboxes {
+        names.push(Name::of(alloc, name)?)?;
+    }
+    Ok(Setup {
+        roots: Roots::new(vec![in alloc; spec(alloc, b"", None)?]?)?,
+        limits: LimitsList::new(limits.to_vec(alloc)?),
+        mailboxes: NameList::new(names),
+        journal,
+    })
+}
+
+#[test]
+fn sound_setups_are_told_from_others(rt: HostRuntime) -> Result<(), Fail> {
+    let alloc = rt.alloc();
+    let limits = [Limits::new(Some(1024), None).ok_or("limits in range")?];
+    let table: [(&[&[u8]], u32, bool); 11] = [
+        (&[b"INBOX"], 1, true),
+        (&[b"INBOX"], 524288, true),
+        (&[b"INBOX", b"Lists", b"Trash"], 65536, true),
+        (&[b"INBOX"], 0, false),
+        (&[b"INBOX"], 524289, false),
+        (&[], 1, false),
+        (&[b"inbox"], 1, false),
+        (&[b"Lists", b"INBOX"], 1, false),
+        (&[b"INBOX", b"inbox"], 1, false),
+        (&[b"INBOX", b"a..b"], 1, false),
+        (&[b"INBOX", b"Lists", b"Trash", b"Lists"], 1, false),
+    ];
+    for (mailboxes, journal, expected) in table {
+        assert_eq!(rt;
+            setup(alloc, &limits, mailboxes, journal)?.is_sound(),
+            expected
+        );
+    }
+    assert!(rt; !setup(alloc, &[], &[b"INBOX"], 1)?.is_sound());
+    Ok(())
+}
+
+#[test]
+fn an_account_has_at_most_256_mailboxes(rt: HostRuntime) -> Result<(), Fail> {
+    let alloc = rt.alloc();
+    let limits = Limits::new(None, None).ok_or("limits in range")?;
+    for (count, expected) in [(255u32, true), (256, false)] {
+        let mut names = vec![in alloc; Name::of(alloc, b"INBOX")?]?;
+        for number in 0..count {
+            let name = format!(in alloc; "m{number}")?;
+            names.push(Name::of(alloc, name.as_bytes())?)?;
+        }
+        let setup = Setup {
+            roots: Roots::new(vec![in alloc; spec(alloc, b"", None)?]?)?,
+            limits: LimitsList::new(vec![in alloc; limits]?),
+            mailboxes: NameList::new(names),
+            journal: 1,
+        };
+        assert_eq!(rt; setup.is_sound(), expected);
+    }
+    Ok(())
+}
+
+#[test]
+fn a_copied_setup_is_equal(rt: HostRuntime) -> Result<(), Fail> {
+    let alloc = rt.alloc();
+    let limits = Limits::new(Some(1024), Some(10)).ok_or("limits in range")?;
+    let copy = setup(alloc, &[limits], &[b"INBOX", b"Trash"], 7)?.copy(alloc)?;
+    assert_eq!(rt; copy.roots.count(), 1);
+    assert_eq!(rt; copy.roots.name(0), b"".as_slice());
+    assert_eq!(rt; copy.limits.as_slice(), [limits].as_slice());
+    let names = copy.mailboxes.as_slice();
+    assert_eq!(rt; names.len(), 2);
+    assert_eq!(rt; names[0].as_slice(), b"INBOX".as_slice());
+    assert_eq!(rt; names[1].as_slice(), b"Trash".as_slice());
+    assert_eq!(rt; copy.journal, 7);
     Ok(())
 }

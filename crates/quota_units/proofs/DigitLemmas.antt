@@ -48,7 +48,7 @@ own = numerals_by_value (AllDigits 10) tells_digits
 digit_of : (c : ℕ) → digit_value c < 10 → is_ascii_digit c ≡ true
 digit_of c lt = let r = digit_from_value c lt in let low : 48 ≤ c = r.0 in let high : c ≤ 57 = r.1 in grind (arith, nat_tests)
 
-digits_all : (ds : List ℕ) → AllDigits 10 ds → list_all is_ascii_digit ds ≡ true
+pub digits_all : (ds : List ℕ) → AllDigits 10 ds → list_all is_ascii_digit ds ≡ true
 digits_all [] h = refl
 digits_all (c ∷ cs) h = ap (λ b. b && list_all is_ascii_digit cs) (digit_of c h.0) ∙ digits_all cs h.1
 

@@ -3,3 +3,4 @@ pub mod Units
 pub mod Limiting
 pub mod Digits
 pub mod Resources
+pub mod Flagging

@@ -1,3 +1,7 @@
+ghost use Rattle.std.specs.Prelude.{◌≡◌, ◌↔◌, ℕ, IsTrue, IfSome, IsSome};
+ghost use Rattle.std.specs.List.{list_all};
+ghost use Rattle.quota_units.specs.Flagging.{is_among, is_flag_letter, has_flag, flags_among};
+
 /// The flags of a message, by the letters of Maildir file names: D, F, P, R, S and T.
 #[derive(Clone, Copy, Debug, PartialEq, Eq)]
 pub struct Flags {
@@ -13,4 +17,63 @@ pub struct Flags {
     pub seen: bool,
     /// T: trashed, which IMAP calls deleted.
     pub trashed: bool,
+}
+
+impl Flags {
+    /// The flags of these letters, in any order and any number of times; `None` where another byte stands among them.
+    pub fn of_letters(letters: &[u8]) -> Option<Flags>
+        ensures some { IsSome result ↔ IsTrue (list_all is_flag_letter letters.now) }
+        ensures value { IfSome result (λ flags. flags ≡ flags_among letters.now) }
+        // The flag of each letter is set exactly where that letter stands there.
+        ensures exact { IfSome result (λ flags. (letter : ℕ) → has_flag flags letter ≡ is_among letters.now letter) }
+    {
+        if are_flag_letters(letters) {
+            Some(Flags::among(letters))
+        } else {
+            None
+        }
+    }
+
+    /// The flags whose letters stand among the bytes, whatever else stands there.
+    pub fn among(bytes: &[u8]) -> Flags
+        ensures { result ≡ flags_among bytes.now }
+    {
+        Flags {
+            draft: bytes.contains(&b'D'),
+            flagged: bytes.contains(&b'F'),
+            passed: bytes.contains(&b'P'),
+            replied: bytes.contains(&b'R'),
+            seen: bytes.contains(&b'S'),
+            trashed: bytes.contains(&b'T'),
+        }
+    }
+
+    /// Whether the flag of this letter is set; false for a byte that names no flag.
+    pub fn has(self, letter: u8) -> bool
+        ensures { result ≡ has_flag self letter }
+    {
+        match letter {
+            b'D' => self.draft,
+            b'F' => self.flagged,
+            b'P' => self.passed,
+            b'R' => self.replied,
+            b'S' => self.seen,
+            b'T' => self.trashed,
+            _ => false,
+        }
+    }
+}
+
+/// Whether the byte names a flag: D, F, P, R, S or T.
+pub fn is_flag_letter(byte: u8) -> bool
+    ensures { result ≡ is_flag_letter byte }
+{
+    matches!(byte, b'D' | b'F' | b'P' | b'R' | b'S' | b'T')
+}
+
+/// Whether each of the bytes names a flag.
+fn are_flag_letters(bytes: &[u8]) -> bool
+    ensures { result ≡ list_all is_flag_letter bytes.now }
+{
+    bytes.iter().all(|byte| is_flag_letter(*byte))
 }

@@ -13,7 +13,7 @@ mod units;
 
 pub use bytes::is_printable;
 pub use digits::{number_in, numeral_in};
-pub use flags::Flags;
+pub use flags::{Flags, is_flag_letter};
 pub use limits::{LimitError, Limits, limit_of_count, limit_of_units};
 pub use memory::NoMemory;
 pub use name::{Name, NameError};

@@ -1,5 +1,5 @@
 // Worked values of units, names and numbers.
-use super::{Limits, Name, NameError, number_in, numeral_in, units_up};
+use super::{Flags, Limits, Name, NameError, is_flag_letter, number_in, numeral_in, units_up};
 use std::test::Fail;
 
 #[test]
@@ -65,5 +65,37 @@ fn numbers_are_1_to_19_digits(rt: HostRuntime) {
     for (bytes, number, numeral) in table {
         assert_eq!(rt; number_in(bytes), number, "{bytes:?}");
         assert_eq!(rt; numeral_in(bytes), numeral, "{bytes:?}");
+    }
+}
+
+#[test]
+fn flags_are_named_by_six_letters(rt: HostRuntime) {
+    let table: [(&[u8], Option<&[u8]>); 8] = [
+        (b"", Some(b"")),
+        (b"S", Some(b"S")),
+        (b"TS", Some(b"ST")),
+        (b"SSTS", Some(b"ST")),
+        (b"TSRPFD", Some(b"DFPRST")),
+        (b"s", None),
+        (b"Sx", None),
+        (b"A", None),
+    ];
+    for (letters, set) in table {
+        let flags = Flags::of_letters(letters);
+        assert_eq!(rt; flags.is_some(), set.is_some(), "{letters:?}");
+        for letter in 0..=255u8 {
+            let has = flags.is_some_and(|flags| flags.has(letter));
+            let stands = set.is_some_and(|set| set.contains(&letter));
+            assert_eq!(rt; has, stands, "{letters:?} {letter}");
+        }
+    }
+}
+
+#[test]
+fn other_bytes_among_letters_set_no_flag(rt: HostRuntime) {
+    let flags = Flags::among(b"xS,Ty");
+    for letter in 0..=255u8 {
+        assert_eq!(rt; flags.has(letter), letter == b'S' || letter == b'T');
+        assert_eq!(rt; is_flag_letter(letter), b"DFPRST".contains(&letter));
     }
 }

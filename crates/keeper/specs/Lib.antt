@@ -1,0 +1,6 @@
+pub mod Causes
+pub mod Files
+pub mod Calls
+pub mod Accounts
+pub mod Plan
+pub mod Memory

@@ -1,0 +1,54 @@
+ghost use Rattle.std.specs.Prelude.{◌≡◌};
+ghost use Rattle.keeper.specs.declared.failed.KeepError.TheVariants.{NoMemory as no_memory, Failed as has_failed};
+
+use quota_units::NoMemory;
+use std::alloc::{AllocError, AllocFailed};
+use thiserror::Error;
+
+/// A store has failed, which the count of faults of the object that was called has seen.
+#[derive(Clone, Copy, Debug, PartialEq, Eq, Error)]
+#[error("the store has failed")]
+pub struct Failed;
+
+/// Why a call of a store that takes memory gave no answer.
+#[derive(Clone, Copy, Debug, PartialEq, Eq, Error)]
+pub enum KeepError {
+    /// There was no memory. The files are as before, and no fault is counted.
+    #[error("out of memory")]
+    NoMemory,
+    /// The store has failed, which is counted.
+    #[error("the store has failed")]
+    Failed,
+}
+
+impl From<Failed> for KeepError {
+    ghost from_gives = { λ _ e. e ≡ has_failed };
+
+    fn from(_: Failed) -> Self {
+        KeepError::Failed
+    }
+}
+
+impl From<NoMemory> for KeepError {
+    ghost from_gives = { λ _ e. e ≡ no_memory };
+
+    fn from(_: NoMemory) -> Self {
+        KeepError::NoMemory
+    }
+}
+
+impl From<AllocError> for KeepError {
+    ghost from_gives = { λ _ e. e ≡ no_memory };
+
+    fn from(_: AllocError) -> Self {
+        KeepError::NoMemory
+    }
+}
+
+impl<T: Drop> From<AllocFailed<T>> for KeepError {
+    ghost from_gives = { λ _ e. e ≡ no_memory };
+
+    fn from(_: AllocFailed<T>) -> Self {
+        KeepError::NoMemory
+    }
+}

@@ -1,0 +1,28 @@
+//! What keeps the files of an account: the traits of a keeper and of the stores that keepers come from, and both in memory.
+#![tactic(auto)]
+
+mod bytes;
+mod failed;
+mod files;
+mod fixed;
+mod keeper;
+mod kept;
+mod ledger;
+mod mem_stores;
+mod memory;
+mod plan;
+mod rows;
+mod stores;
+
+pub use bytes::Bytes;
+pub use failed::{Failed, KeepError};
+pub use fixed::FixedKeeper;
+pub use keeper::Keeper;
+pub use mem_stores::MemStores;
+pub use memory::MemKeeper;
+pub use plan::{CallCounts, KeepCall, KeepFail};
+pub use rows::{FileRow, StoreRow};
+pub use stores::Stores;
+
+#[cfg(test)]
+mod tests;

@@ -1,0 +1,51 @@
+-- What stands before and after the first separator.
+use Rattle.std.proofs.Common.{◌≡◌, ℕ, ◌+◌, ◌-◌, List, [], ◌∷◌, Bool, true, false, cond, not, length, take, drop, None, Some, refl, ap, ◌∙◌, sym, arith}
+use Rattle.std.proofs.Math.Numerals.{one-add, add-one}
+use Rattle.std.specs.List.{position_or_len, before_first, after_first}
+use Rattle.std.proofs.lemmas.Bool.{cond-true, cond-false, false_from_ne_true, not_from_true, not_from_false}
+use Rattle.std.proofs.lemmas.List.{take_all, drop_all, take_rest}
+use Rattle.std.proofs.lemmas.List.Sums.{position_or_len_is, take_while-cons}
+use Rattle.memchr.specs.Find.{IsFirstByte}
+
+module _ (p : ℕ → Bool) where
+  place_some : (xs : List ℕ) (k : ℕ) → IsFirstByte p xs (Some k) → position_or_len p xs ≡ k
+  place_some xs k h = position_or_len_is p xs k 0 (omega arith)
+      (λ j lt. false_from_ne_true _ (h.0.before j (omega arith) lt)) (λ _. h.1)
+
+  place_none : (xs : List ℕ) → IsFirstByte p xs None → position_or_len p xs ≡ length xs
+  place_none xs h = position_or_len_is p xs (length xs) 0 (omega arith)
+      (λ j lt. false_from_ne_true _ (h j (omega arith) lt)) (λ lt. absurd (omega arith))
+
+  pub before_some : (xs : List ℕ) (k : ℕ) → IsFirstByte p xs (Some k) → take k xs ≡ before_first p xs
+  before_some xs k h = ap (λ n. take n xs) (sym (place_some xs k h))
+
+  pub after_some : (xs : List ℕ) (k : ℕ) → IsFirstByte p xs (Some k) → take (length xs - (k + 1)) (drop (k + 1) xs) ≡ after_first p xs
+  after_some xs k h = take_rest xs (k + 1) ∙ ap (λ n. drop (n + 1) xs) (sym (place_some xs k h))
+
+  pub before_none : (xs : List ℕ) → IsFirstByte p xs None → xs ≡ before_first p xs
+  before_none xs h = sym (take_all (position_or_len p xs) xs (omega (arith, place_none xs h)))
+
+  pub after_none : (xs : List ℕ) → IsFirstByte p xs None → [] ≡ after_first p xs
+  after_none xs h = sym (drop_all (position_or_len p xs + 1) xs (omega (arith, place_none xs h)))
+
+  -- byte by byte
+  after_either : (b : Bool) (n x : ℕ) (xs : List ℕ) → drop (cond (not b) (1 + n) 0 + 1) (x ∷ xs) ≡ cond b xs (drop (n + 1) xs)
+  after_either true n x xs = refl
+  after_either false n x xs = rw (one-add, add-one, add-one)
+
+  after-cons : (x : ℕ) (xs : List ℕ) → after_first p (x ∷ xs) ≡ cond (p x) xs (after_first p xs)
+  after-cons x xs = after_either (p x) (position_or_len p xs) x xs
+
+  pub after_yes : (x : ℕ) (xs : List ℕ) → p x ≡ true → after_first p (x ∷ xs) ≡ xs
+  after_yes x xs h = after-cons x xs ∙ cond-true (p x) xs (after_first p xs) h
+
+  pub after_no : (x : ℕ) (xs : List ℕ) → p x ≡ false → after_first p (x ∷ xs) ≡ after_first p xs
+  after_no x xs h = after-cons x xs ∙ cond-false (p x) xs (after_first p xs) h
+
+  pub before_yes : (x : ℕ) (xs : List ℕ) → p x ≡ true → before_first p (x ∷ xs) ≡ []
+  before_yes x xs h = take_while-cons (λ y. not (p y)) x xs
+      ∙ cond-false (not (p x)) (x ∷ before_first p xs) [] (not_from_true (p x) h)
+
+  pub before_no : (x : ℕ) (xs : List ℕ) → p x ≡ false → before_first p (x ∷ xs) ≡ x ∷ before_first p xs
+  before_no x xs h = take_while-cons (λ y. not (p y)) x xs
+      ∙ cond-true (not (p x)) (x ∷ before_first p xs) [] (not_from_false (p x) h)

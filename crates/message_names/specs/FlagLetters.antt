@@ -1,0 +1,19 @@
+-- The flags of a file name (Maildir): letters behind a leading `2,` of the info part.
+use Rattle.std.specs.Prelude.{ℕ, not, ◌&&◌, ◌==◌, if◌then◌else◌, List, [], ◌∷◌}
+use Rattle.std.specs.List.{filter}
+use Rattle.quota_units.specs.declared.flags.Flags.{Flags}
+use Rattle.quota_units.specs.Flagging.{is_flag_letter, flags_among}
+use Rattle.message_names.specs.Parts.{info_of}
+
+-- what follows a leading `2,`, and nothing where the info part begins with something else
+abbrev pub behind_two : List ℕ → List ℕ
+behind_two [] = []
+behind_two (a ∷ []) = []
+behind_two (a ∷ b ∷ rest) = if a == 50 && b == 44 then rest else []
+
+abbrev pub flags_of : List ℕ → Flags
+flags_of name = flags_among (behind_two (info_of name))
+
+-- the bytes that follow the `2,` and name no flag, in their order
+abbrev pub others_of : List ℕ → List ℕ
+others_of name = filter (λ b. not (is_flag_letter b)) (behind_two (info_of name))

@@ -1,0 +1,109 @@
+ghost use Rattle.std.specs.Prelude.{◌≡◌, IfOk};
+
+use quota_units::{Limits, Name, NoMemory};
+use std::alloc::{AllocError, Global};
+use std::marker::Model;
+
+/// Limits, one after another.
+#[derive(Debug, Drop)]
+pub struct LimitsList {
+    limits: Vec<Limits>,
+}
+
+impl Model for LimitsList {
+    ghost use Rattle.std.specs.Prelude.{List};
+    ghost use Rattle.quota_units.specs.Limiting.{LimitNumbers};
+
+    ghost Value = { List LimitNumbers };
+
+    ghost view = { λ l. l.limits.items };
+}
+
+impl LimitsList {
+    /// These limits. It takes no memory.
+    pub fn new(limits: Vec<Limits>) -> LimitsList
+        ensures { result ≡ limits.items }
+    {
+        LimitsList { limits }
+    }
+
+    /// The limits, in order.
+    pub fn as_slice(&self) -> &[Limits]
+        ensures { result.now ≡ self.now }
+    {
+        self.limits.as_slice()
+    }
+
+    /// An equal list.
+    ///
+    /// # Errors
+    ///
+    /// There was no memory.
+    pub fn copy(&self, alloc: Global) -> Result<LimitsList, NoMemory>
+        ensures { IfOk result (λ copy. copy ≡ self.now) }
+    {
+        Ok(LimitsList {
+            limits: self.limits.to_vec(alloc)?,
+        })
+    }
+}
+
+/// Names, one after another.
+#[derive(Debug, Drop)]
+pub struct NameList {
+    names: Vec<Name>,
+}
+
+impl Model for NameList {
+    ghost use Rattle.std.specs.Prelude.{ℕ, List};
+
+    ghost Value = { List (List ℕ) };
+
+    ghost view = { λ l. l.names.items };
+}
+
+impl NameList {
+    /// These names. It takes no memory.
+    pub fn new(names: Vec<Name>) -> NameList
+        ensures { result ≡ names.items }
+    {
+        NameList { names }
+    }
+
+    /// The names, in order.
+    pub fn as_slice(&self) -> &[Name]
+        ensures { result.now ≡ self.now }
+    {
+        self.names.as_slice()
+    }
+
+    /// An equal list.
+    ///
+    /// # Errors
+    ///
+    /// There was no memory.
+    pub fn copy(&self, alloc: Global) -> Result<NameList, NoMemory>
+        ensures { IfOk result (λ copy. copy ≡ self.now) }
+    {
+        Ok(NameList {
+            names: copy_names(alloc, &self.names)?,
+        })
+    }
+}
+
+fn copy_names(alloc: Global, names: &[Name]) -> Result<Vec<Name>, AllocError>
+    ensures { IfOk result (λ copy. copy.items ≡ names.now) }
+{
+    let mut copy = Vec::new(alloc);
+    for name in names {
+        copy.push(copy_name(alloc, name)?)?;
+    }
+    Ok(copy)
+}
+
+/// An equal name. A name is never too long for one, so that only want of memory is left.
+pub(crate) fn copy_name(alloc: Global, name: &Name) -> Result<Name, AllocError>
+    ensures { IfOk result (λ copy. copy ≡ name.now) }
+{
+    Name::of(alloc, name.as_slice()).map_err(|_| AllocError)
+}
