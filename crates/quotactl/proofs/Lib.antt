@@ -6,3 +6,4 @@ pub mod Running
 pub mod Controlling
 pub mod Wording
 pub mod Repeats
+pub mod Telling
