@@ -1,5 +1,5 @@
 -- Choices by tests that are known.
-use Rattle.std.proofs.Common.{◌≡◌, ℕ, Bool, true, false, ◌&&◌, refl, if◌then◌else◌, arith}
+use Rattle.std.proofs.Common.{◌≡◌, Bool, true, false, ◌&&◌, refl, if◌then◌else◌, arith}
 use Rattle.std.proofs.lemmas.Bool.Decides.{nat_tests}
 
 pub choose : {A : Type 0} (c : Bool) (x y : A) → c ≡ true → (if c then x else y) ≡ x

@@ -1,7 +1,7 @@
 -- Reading digits, as far as an index.
-use Rattle.std.proofs.Common.{◌≡◌, ℕ, zero, suc, ◌+◌, ◌-◌, ◌*◌, ◌<◌, ◌≤◌, Bool, true, false, List, [], ◌∷◌, length, drop, get_or, refl, sym, ap, ◌∙◌, if◌then◌else◌, arith}
+use Rattle.std.proofs.Common.{◌≡◌, ℕ, zero, suc, ◌+◌, ◌-◌, ◌*◌, ◌<◌, ◌≤◌, true, false, List, length, drop, get_or, refl, sym, ap, ◌∙◌, arith}
 use Rattle.std.proofs.lemmas.List.{drop_more, drop_all}
-use Rattle.imap_grammar.specs.Reading.{Reading, got, wrong, short}
+use Rattle.imap_grammar.specs.Reading.{got, wrong, short}
 use Rattle.imap_grammar.specs.Numbers.{takes_digit, number_ends, digits, number}
 use Rattle.imap_grammar.proofs.Choices.{choose, refuse}
 

@@ -1,10 +1,10 @@
 -- Lists of limits: what is read is spelled so, and each spelling is read.
-use Rattle.std.proofs.Common.{◌≡◌, ℕ, zero, suc, ◌+◌, ◌<◌, ◌≤◌, Bool, true, false, List, [], ◌∷◌, ◌++◌, length, Option, Some, None, refl, sym, ap, ◌∙◌, subst, arith, if◌then◌else◌, append_assoc, append-nil, length-append, eqb, eqb-true}
+use Rattle.std.proofs.Common.{◌≡◌, ℕ, zero, suc, ◌≤◌, Bool, true, false, List, [], ◌∷◌, ◌++◌, length, Option, Some, None, refl, sym, ap, ◌∙◌, subst, arith, if◌then◌else◌, append_assoc, append-nil, length-append, eqb, eqb-true}
 use Rattle.std.specs.Char.{is_ascii_digit}
 use Rattle.quota_units.specs.Resources.{resource_of}
 use Rattle.imap_grammar.specs.declared.limits.AskedLimit.{AskedLimit}
 use Rattle.imap_grammar.specs.Grammar.{IsPlain, IsNumber, IsAskedLimit, IsMoreLimits, IsLimits}
-use Rattle.imap_grammar.specs.Reading.{Reading, got, wrong, short, Reader, and_then, gives, fails, byte}
+use Rattle.imap_grammar.specs.Reading.{Reading, got, wrong, short, and_then, gives, byte}
 use Rattle.imap_grammar.specs.Astrings.{plain}
 use Rattle.imap_grammar.specs.Numbers.{number}
 use Rattle.imap_grammar.specs.LimitLists.{asked_limit, next_limit, with_others, more_limits, limits_behind, some_limits, limits_closed}

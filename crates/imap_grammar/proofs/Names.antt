@@ -1,10 +1,10 @@
 -- Names: what is read is spelled so, and each spelling is read.
-use Rattle.std.proofs.Common.{◌≡◌, ℕ, ◌<◌, ◌⊎◌, Bool, true, false, ◌&&◌, List, [], ◌∷◌, ◌++◌, length, refl, sym, ap, ◌∙◌, subst, inl, inr, arith, if◌then◌else◌, append_assoc, append-nil, eqb, eqb-true}
+use Rattle.std.proofs.Common.{◌≡◌, ℕ, Bool, true, false, ◌&&◌, List, [], ◌∷◌, ◌++◌, refl, sym, ap, ◌∙◌, subst, inl, inr, arith, if◌then◌else◌, append_assoc, eqb, eqb-true}
 use Rattle.std.specs.List.{list_all, flat_map}
 use Rattle.std.proofs.lemmas.Bool.Decides.{nat_tests}
 use Rattle.imap_grammar.specs.Bytes.{is_astring_byte, is_escaped, is_quotable}
-use Rattle.imap_grammar.specs.Printing.{escaped, quoted}
-use Rattle.imap_grammar.specs.Grammar.{IsPlain, IsQuoted, IsAstring}
+use Rattle.imap_grammar.specs.Printing.{escaped}
+use Rattle.imap_grammar.specs.Grammar.{IsPlain, IsAstring}
 use Rattle.imap_grammar.specs.Reading.{Reading, got, wrong, short, with_first, many}
 use Rattle.imap_grammar.specs.Astrings.{plain, inside, astring}
 use Rattle.imap_grammar.proofs.Choices.{choose, refuse, and_parts}

@@ -6,7 +6,7 @@ use Rattle.quota_units.specs.Bytes.{is_printable}
 use Rattle.imap_grammar.specs.Bytes.{is_astring_byte, is_quotable}
 use Rattle.imap_grammar.specs.Printing.{is_plain, is_printable_text, quoted, literal, printed}
 use Rattle.imap_grammar.specs.Grammar.{IsAstring}
-use Rattle.imap_grammar.proofs.Choices.{and_parts, refuse, choose}
+use Rattle.imap_grammar.proofs.Choices.{and_parts, choose}
 
 printable_quotable : (b : ℕ) → is_printable b ≡ true → is_quotable b ≡ true
 printable_quotable b e = grind (arith, nat_tests)

@@ -1,8 +1,8 @@
 -- Reading what stands between quotes, as far as an index.
-use Rattle.std.proofs.Common.{◌≡◌, ℕ, ◌+◌, ◌-◌, ◌<◌, ◌≤◌, Bool, true, false, List, [], ◌∷◌, ◌++◌, length, drop, get_or, refl, sym, ap, ◌∙◌, if◌then◌else◌, append-nil, eqb, length-drop}
+use Rattle.std.proofs.Common.{◌≡◌, ℕ, ◌+◌, ◌<◌, ◌≤◌, Bool, true, false, List, [], ◌∷◌, ◌++◌, length, drop, get_or, refl, sym, ap, ◌∙◌, append-nil, eqb}
 use Rattle.std.proofs.lemmas.List.{drop_more, drop_all}
 use Rattle.imap_grammar.specs.Bytes.{is_escaped, is_quotable}
-use Rattle.imap_grammar.specs.Reading.{Reading, got, wrong, short, with_first}
+use Rattle.imap_grammar.specs.Reading.{Reading, got, wrong, short}
 use Rattle.imap_grammar.specs.Astrings.{inside}
 use Rattle.imap_grammar.proofs.Choices.{choose, refuse}
 use Rattle.imap_grammar.proofs.Many.{with_front, front_first}

@@ -1,5 +1,5 @@
 -- Spellings that are read.
-use Rattle.std.proofs.Common.{◌≡◌, ℕ, Bool, true, false, List, [], ◌∷◌, ◌++◌, refl, ap, ◌∙◌, ◌⊎◌, inl, inr, if◌then◌else◌}
+use Rattle.std.proofs.Common.{◌≡◌, ℕ, Bool, true, false, List, [], ◌∷◌, ◌++◌, ap, ◌∙◌, inl, inr, if◌then◌else◌}
 use Rattle.std.specs.List.{list_all}
 use Rattle.imap_grammar.specs.Grammar.{IsLineEnd}
 use Rattle.imap_grammar.specs.Reading.{Reading, got, and_then, gives, with_first, many, line_end, Reader}

@@ -12,14 +12,14 @@ use Rattle.imap_grammar.specs.declared.command.Command.TheVariants.{GetQuota, Ge
 use Rattle.imap_grammar.specs.declared.word.Word.{Word}
 use Rattle.imap_grammar.specs.declared.word.Word.TheVariants.{GetQuota as GetQuotaWord, GetQuotaRoot as GetQuotaRootWord, SetQuota as SetQuotaWord, Logout as LogoutWord}
 use Rattle.imap_grammar.specs.Bytes.{is_tag_byte, is_letter, is_astring_byte}
-use Rattle.imap_grammar.specs.Grammar.{Tagged, IsTag, IsLineEnd, IsWord, IsAstring, IsLimits, NamesOne, NamesLimits, IsBody, IsCommand}
+use Rattle.imap_grammar.specs.Grammar.{Tagged, IsTag, IsLineEnd, IsWord, IsAstring, IsLimits, IsBody, IsCommand}
 use Rattle.imap_grammar.specs.Reading.{Reading, got, wrong, short, Reader, and_then, gives, fails, byte, many, line_end}
 use Rattle.imap_grammar.specs.Astrings.{astring}
 use Rattle.imap_grammar.specs.LimitLists.{limits_closed}
 use Rattle.imap_grammar.specs.Commands.{word_named, word_of, checked_tag, tag_at, name_alone, name_and_limits, nothing_more, arguments_behind, is_allowed, allowed_arguments, arguments_of, command_at, all_read, command_in}
 use Rattle.imap_grammar.proofs.Choices.{choose, and_parts}
-use Rattle.imap_grammar.proofs.Takes.{Takes, Both, Run, Byte, Ends, takes_then, takes_weaker, takes_fails, takes_many, takes_ends, takes_next, behind}
-use Rattle.imap_grammar.proofs.Spelled.{run_spelled, end_spelled, then_spelled}
+use Rattle.imap_grammar.proofs.Takes.{Takes, Both, Run, Ends, takes_then, takes_weaker, takes_fails, takes_many, takes_ends, takes_next, behind}
+use Rattle.imap_grammar.proofs.Spelled.{run_spelled, end_spelled}
 use Rattle.imap_grammar.proofs.Names.{takes_astring, astring_spelled}
 use Rattle.imap_grammar.proofs.LimitLists.{Closed, takes_closed, closed_spelled}
 

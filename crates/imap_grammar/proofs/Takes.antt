@@ -1,5 +1,5 @@
 -- What a reader takes: the bytes at the front of a text, spelled by a relation.
-use Rattle.std.proofs.Common.{◌≡◌, ℕ, ◌⊎◌, Bool, true, false, ◌&&◌, List, [], ◌∷◌, ◌++◌, refl, sym, ap, ◌∙◌, subst, inl, inr, if◌then◌else◌, append_assoc, append-nil, eqb, eqb-true}
+use Rattle.std.proofs.Common.{◌≡◌, ℕ, Bool, true, false, ◌&&◌, List, [], ◌∷◌, ◌++◌, refl, sym, ap, ◌∙◌, subst, inl, inr, if◌then◌else◌, append_assoc, append-nil, eqb, eqb-true}
 use Rattle.std.specs.List.{list_all}
 use Rattle.imap_grammar.specs.Grammar.{IsLineEnd}
 use Rattle.imap_grammar.specs.Reading.{Reading, got, wrong, short, Reader, and_then, gives, fails, byte, with_first, many, line_end}

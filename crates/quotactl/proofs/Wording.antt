@@ -1,11 +1,11 @@
 -- Commands that are answered without a call.
 use Rattle.std.proofs.Common.{◌≡◌, ◌<◌, ℕ, Bool, true, false, List, [], length, Result, Ok, Err, OnOk, ◌⊎◌, inl, inr, lt-ltb, refl, sym, ap, subst, if◌then◌else◌}
-use Rattle.wire_io.specs.Work.{Work, say, Does}
+use Rattle.wire_io.specs.Work.{say, Does}
 use Rattle.wire_io.specs.declared.ends.After.TheVariants.{Open}
 use Rattle.quota_units.specs.declared.memory.NoMemory.{NoMemory}
 use Rattle.imap_grammar.specs.declared.command.Command.{Command}
 use Rattle.account_core.specs.declared.calls.Call.{Call}
-use Rattle.account_core.specs.History.{Answer, Book}
+use Rattle.account_core.specs.History.{Book}
 use Rattle.quota_units.specs.declared.name.NameError.{NameError}
 use Rattle.quota_units.specs.declared.name.NameError.TheVariants.{TooLong, NoMemory as NoNameMemory}
 use Rattle.quota_units.specs.Limiting.{LimitNumbers}

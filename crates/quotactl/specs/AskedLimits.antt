@@ -1,5 +1,5 @@
 -- The limits that SETQUOTA asks for, or why they are refused. The order of the refusals is this project's own.
-use Rattle.std.specs.Prelude.{ℕ, ◌*◌, Bool, true, false, not, ◌&&◌, ◌||◌, nat_lt, nat_le, if◌then◌else◌, List, length, filter, find, Option, Some, None, Result, Ok, Err, codes}
+use Rattle.std.specs.Prelude.{ℕ, ◌*◌, Bool, true, false, ◌&&◌, ◌||◌, nat_lt, nat_le, if◌then◌else◌, List, length, filter, find, Option, Some, None, Result, Ok, Err, codes}
 use Rattle.std.specs.List.{list_any}
 use Rattle.std.specs.Option.{is_none, option_map}
 use Rattle.quota_units.specs.Limiting.{LimitNumbers}

@@ -1,7 +1,7 @@
-use Rattle.std.proofs.Common.{rules, ◌≡◌, ◌<◌, ℕ, List, length, Err, Ok, Some, subst, sym, ap, ◌∙◌, Option}
+use Rattle.std.proofs.Common.{rules, ap, ◌∙◌, Option}
 use Rattle.imap_grammar.specs.declared.limits.AskedLimit.{AskedLimit}
-use Rattle.imap_grammar.specs.Reading.{Gives, Stops, got}
-use Rattle.imap_grammar.specs.LimitLists.{next_limit, some_limits}
+use Rattle.imap_grammar.specs.Reading.{Stops, got}
+use Rattle.imap_grammar.specs.LimitLists.{some_limits}
 use Rattle.imap_grammar.proofs.LimitLoop.{limits_stop, limits_more, limits_shorter}
 use Rattle.imap_grammar.proofs.limits.some_limits.Goals as goal
 

@@ -1,4 +1,4 @@
-use Rattle.std.proofs.Common.{ap, ◌∙◌, sym, Err, Ok}
+use Rattle.std.proofs.Common.{ap, ◌∙◌, sym, Err}
 use Rattle.imap_grammar.specs.declared.command.Command.TheVariants.{SetQuota}
 use Rattle.account_core.specs.declared.calls.Call.TheVariants.{SetLimits}
 use Rattle.quotactl.specs.Texts.{no_root_text}
