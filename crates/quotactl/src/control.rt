@@ -9,8 +9,8 @@ ghost use Rattle.quotactl.specs.Checking.{Tells, max_checked};
 ghost use Rattle.quotactl.specs.Control.{RunsSession, Controls, status_of, usage_line, session_of};
 
 use crate::check::check;
-use crate::session::run_session;
 use crate::form::{Form, form_of};
+use crate::session::run_session;
 use account_core::PlainAccount;
 use quota_units::Limits;
 use std::alloc::Global;

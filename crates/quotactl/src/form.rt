@@ -1,8 +1,8 @@
 // The words of the program, after its name.
-ghost use Rattle.std.specs.Prelude.{◌≡◌, ◌<◌, ◌≤◌, ◌↔◌, ℕ, IsTrue, map, codes, IfSome, IfNone};
+ghost use Rattle.std.specs.Prelude.{◌≡◌, ◌<◌, ◌≤◌, ◌↔◌, ℕ, [], ◌∷◌, IsTrue, map, codes, IfSome, IfNone};
 ghost use Rattle.std.specs.String.{string_bytes};
 ghost use Rattle.std.specs.Fmt.{decimal};
-ghost use Rattle.quotactl.specs.Words.{IsForm, IsNoForm};
+ghost use Rattle.quotactl.specs.Words.{IsSessionForm, IsForm, IsNoForm};
 
 use quota_units::numeral_in;
 
@@ -40,17 +40,40 @@ fn is_check(word: &[u8]) -> bool
     word == b"check".as_slice()
 }
 
+/// The units of storage, where the words are `session N`.
+fn session_units(words: &[String]) -> Option<u64>
+    ensures some { IfSome result (λ n. IsSessionForm (map string_bytes words.now) n) }
+    ensures none { IfNone result ((n : ℕ) → IsSessionForm (map string_bytes words.now) n → ⊥) }
+{
+    match words {
+        [form, number] if is_session(form.as_bytes()) => match units_in(number.as_bytes()) {
+            Some(n) => Some(n),
+            None => None,
+        },
+        _ => None,
+    }
+}
+
+/// Whether the words are `check`.
+fn are_check(words: &[String]) -> bool
+    ensures { IsTrue result ↔ (map string_bytes words.now ≡ codes "check" ∷ []) }
+{
+    match words {
+        [form] => is_check(form.as_bytes()),
+        _ => false,
+    }
+}
+
 /// What the words say; `None` where they are of no form.
 pub fn form_of(words: &[String]) -> Option<Form>
     ensures some { IfSome result (λ form. IsForm (map string_bytes words.now) form) }
     ensures none { IfNone result (IsNoForm (map string_bytes words.now)) }
 {
-    match words {
-        [form] if is_check(form.as_bytes()) => Some(Form::Check),
-        [form, number] if is_session(form.as_bytes()) => match units_in(number.as_bytes()) {
-            Some(units) => Some(Form::Session { units }),
-            None => None,
-        },
-        _ => None,
+    if are_check(words) {
+        return Some(Form::Check);
+    }
+    match session_units(words) {
+        Some(units) => Some(Form::Session { units }),
+        None => None,
     }
 }
