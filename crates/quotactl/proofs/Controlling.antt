@@ -17,7 +17,8 @@ use Rattle.quotactl.specs.Imap.{imap}
 use Rattle.quotactl.specs.Texts.{greeting}
 use Rattle.quotactl.specs.Owner.{is_full, owner}
 use Rattle.quotactl.specs.Serving.{input_limit, NeverStore, Owns, IsSession}
-use Rattle.quotactl.specs.Control.{IsForm, RunsSession, status_of, fresh, session_of}
+use Rattle.quotactl.specs.Words.{IsSessionForm}
+use Rattle.quotactl.specs.Control.{RunsSession, status_of, fresh, session_of}
 use Rattle.quotactl.proofs.Lines.{imap_filled}
 
 abbrev book : Opened → List Entry → Book
@@ -71,14 +72,14 @@ output_is (Some input) (Some rest) written written' n account' end s quiet some 
     let is = session_decided imap owner input_limit imap_filled input s.taken rest s.log s.text end (fresh n) account' s.consumed s.session (owned_answers (fresh n) account' s.log s.owned) quiet some in
     (is.1, subst (Appends written written') is.0 s.appended)
 
-form_number : (words : List (List ℕ)) (n m : ℕ) → IsForm words n → IsForm words m → n ≡ m
+form_number : (words : List (List ℕ)) (n m : ℕ) → IsSessionForm words n → IsSessionForm words m → n ≡ m
 form_number words n m a b =
     let both : codes "session" ∷ decimal n ∷ [] ≡ codes "session" ∷ decimal m ∷ [] = sym a.words_are ∙ b.words_are in
     let same : decimal n ≡ decimal m = cc in
     decimal_injective n m (omega (arith, a.bounded)) (omega (arith, b.bounded)) same
 
 -- the status and all that is written
-pub control_output : (words : List (List ℕ)) (left left' written written' : Option (List ℕ)) (units m : ℕ) (end : SessionEnd) (status : ℕ) (R W : Type 0) → IsForm words units → IsForm words m
+pub control_output : (words : List (List ℕ)) (left left' written written' : Option (List ℕ)) (units m : ℕ) (end : SessionEnd) (status : ℕ) (R W : Type 0) → IsSessionForm words units → IsSessionForm words m
     → RunsSession left left' written written' units end → status ≡ status_of end → (end ≡ ReadFault → R) → (end ≡ WriteFault → W)
     → IfSome left (λ input. (R → ⊥) → (W → ⊥) → status ≢ 6 → (status ≡ status_of (session_of m input).end) × Appends written written' (greeting ++ (session_of m input).text))
 control_output words None left' written written' units m end status R W form own runs is read write = tt

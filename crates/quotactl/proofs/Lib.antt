@@ -4,5 +4,7 @@ pub mod Lines
 pub mod Taking
 pub mod Running
 pub mod Controlling
+pub mod LedgerChecks
 pub mod Wording
 pub mod Repeats
+pub mod Telling

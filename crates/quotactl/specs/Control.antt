@@ -11,16 +11,9 @@ use Rattle.account_core.specs.Plain.{plain_opened}
 use Rattle.quotactl.specs.Imap.{imap}
 use Rattle.quotactl.specs.Owner.{owner}
 use Rattle.quotactl.specs.Serving.{input_limit, IsSession}
-
--- the words `session N`: N in decimal digits, with no sign and no leading zero
-pub record IsForm (words : List (List ℕ)) (n : ℕ) : Type 0 where
-  pub words_are : words ≡ codes "session" ∷ decimal n ∷ []
-  pub some : 0 < n
-  pub bounded : n ≤ 8796093022207
-
--- the words are of no form that is built
-abbrev pub IsNoForm : List (List ℕ) → Type 0
-IsNoForm words = (n : ℕ) → IsForm words n → ⊥
+use Rattle.quotactl.specs.declared.form.Form.TheVariants.{Session, Check}
+use Rattle.quotactl.specs.Words.{IsForm, IsNoForm}
+use Rattle.quotactl.specs.Checking.{ChecksLedger}
 
 abbrev pub status_of : SessionEnd → ℕ
 status_of Closed = 0
@@ -46,10 +39,13 @@ session_of n input = transcript imap owner input_limit (fresh n) input
 abbrev pub RunsSession : (left left' written written' : Option (List ℕ)) → ℕ → SessionEnd → Type 0
 RunsSession left left' written written' n end = (account' : Book) × IsSession left left' written written' (fresh n) account' end
 
+-- what the program does, by its words
 pub data Controls (words : List (List ℕ)) (left left' written written' : Option (List ℕ)) (status : ℕ) : Type 0 where
   -- a session of an account with N units
-  runs : (n : ℕ) (account' : Book) (end : SessionEnd) → IsForm words n → IsSession left left' written written' (fresh n) account' end → status ≡ status_of end
+  runs : (n : ℕ) (account' : Book) (end : SessionEnd) → IsForm words (Session n) → IsSession left left' written written' (fresh n) account' end → status ≡ status_of end
       → Controls words left left' written written' status
+  -- what a ledger holds
+  checks : IsForm words Check → ChecksLedger left left' written written' status → Controls words left left' written written' status
   -- the words are of no form, and the usage line says so
   refuses : IsNoForm words → Keeps left left' → Appends written written' usage_line → status ≡ 1 → Controls words left left' written written' status
   -- or a front of it does

@@ -3,4 +3,6 @@ pub mod Texts
 pub mod Imap
 pub mod Serving
 pub mod Owner
+pub mod Words
+pub mod Checking
 pub mod Control

@@ -1,15 +1,18 @@
 // The program over its words, its source and its sink.
-ghost use Rattle.std.specs.Prelude.{◌≡◌, ◌≢◌, ◌<◌, ◌≤◌, ◌++◌, ◌↔◌, ℕ, IsTrue, map, codes, IfSome, IfNone};
+ghost use Rattle.std.specs.Prelude.{◌≡◌, ◌≢◌, ◌<◌, ◌≤◌, ◌++◌, ℕ, List, take, map, IfSome};
 ghost use Rattle.std.specs.String.{string_bytes};
-ghost use Rattle.std.specs.Fmt.{decimal};
 ghost use Rattle.std.specs.Io.KnownBytes.{Appends};
 ghost use Rattle.wire_io.specs.Causes.{Rose};
 ghost use Rattle.quotactl.specs.Texts.{greeting};
-ghost use Rattle.quotactl.specs.Control.{IsForm, IsNoForm, RunsSession, Controls, status_of, usage_line, session_of};
+ghost use Rattle.quotactl.specs.Words.{IsForm, IsNoForm};
+ghost use Rattle.quotactl.specs.Checking.{Tells, max_checked};
+ghost use Rattle.quotactl.specs.Control.{RunsSession, Controls, status_of, usage_line, session_of};
 
+use crate::check::check;
+use crate::form::{Form, form_of};
 use crate::session::run_session;
 use account_core::PlainAccount;
-use quota_units::{Limits, numeral_in};
+use quota_units::Limits;
 use std::alloc::Global;
 use wire_io::{Failed, SessionEnd, Sink, Source, send};
 
@@ -28,38 +31,6 @@ fn status(end: SessionEnd) -> u8
         SessionEnd::WriteFault => 5,
         SessionEnd::NoMemory => 6,
         SessionEnd::InputLimit => 11,
-    }
-}
-
-/// The units of storage that a word names: 1 to 8796093022207, in decimal digits with no leading zero.
-fn units_in(word: &[u8]) -> Option<u64>
-    ensures some { IfSome result (λ n. (word.now ≡ decimal n) × (0 < n) × (n ≤ 8796093022207)) }
-    ensures none { IfNone result ((n : ℕ) → word.now ≡ decimal n → 0 < n → n ≤ 8796093022207 → ⊥) }
-{
-    match numeral_in(word) {
-        Some(n) if 0 < n && n <= 8796093022207 => Some(n),
-        _ => None,
-    }
-}
-
-/// Whether the word is `session`.
-fn is_session(word: &[u8]) -> bool
-    ensures { IsTrue result ↔ (word.now ≡ codes "session") }
-{
-    word == b"session".as_slice()
-}
-
-/// The units of storage, where the words are `session N`.
-fn session_units(words: &[String]) -> Option<u64>
-    ensures some { IfSome result (λ n. IsForm (map string_bytes words.now) n) }
-    ensures none { IfNone result (IsNoForm (map string_bytes words.now)) }
-{
-    match words {
-        [form, number] if is_session(form.as_bytes()) => match units_in(number.as_bytes()) {
-            Some(n) => Some(n),
-            None => None,
-        },
-        _ => None,
     }
 }
 
@@ -85,8 +56,8 @@ fn run<S: Source, O: Sink>(alloc: Global, units: u64, source: &mut S, sink: &mut
 /// Does what the words of `quotactl` say, over a source and a sink, and gives the exit status.
 ///
 /// The words are those after the program's name. `session N`, with N from 1 to 8796093022207 in decimal digits with no
-/// leading zero, is a session of IMAP for the owner of an account with N units of storage of 1024 octets. Any other words
-/// are answered with the usage line and status 1.
+/// leading zero, is a session of IMAP for the owner of an account with N units of storage of 1024 octets. `check` says what a
+/// ledger holds. Any other words are answered with the usage line and status 1.
 pub fn control<S: Source, O: Sink>(
     alloc: Global,
     words: &[String],
@@ -103,14 +74,18 @@ pub fn control<S: Source, O: Sink>(
     ensures write_kept { result ≢ 5 → O.faults sink.new ≡ O.faults sink.old }
 
     // Where nothing failed, words and input decide the status and all that is written, but for want of memory.
-    ensures output { (n : ℕ) → IsForm (map string_bytes words.now) n → IfSome (S.left source.old) (λ input.
+    ensures output { (n : ℕ) → IsForm (map string_bytes words.now) (Form.Session n) → IfSome (S.left source.old) (λ input.
         (Rose (S.faults source.old) (S.faults source.new) → ⊥) → (Rose (O.faults sink.old) (O.faults sink.new) → ⊥) → result ≢ 6
         → (result ≡ status_of (session_of n input).end) × Appends (O.written sink.old) (O.written sink.new) (greeting ++ (session_of n input).text)) }
+    ensures checked { IsForm (map string_bytes words.now) Form.Check → IfSome (S.left source.old) (λ input.
+        (Rose (S.faults source.old) (S.faults source.new) → ⊥) → (Rose (O.faults sink.old) (O.faults sink.new) → ⊥) → result ≢ 6
+        → (text : List ℕ) × Tells (take max_checked input) text result × Appends (O.written sink.old) (O.written sink.new) text) }
     ensures usage { IsNoForm (map string_bytes words.now) → (Rose (O.faults sink.old) (O.faults sink.new) → ⊥)
         → (result ≡ 1) × Appends (O.written sink.old) (O.written sink.new) usage_line }
 {
-    match session_units(words) {
-        Some(units) => status(run(alloc, units, source, sink)),
+    match form_of(words) {
+        Some(Form::Session { units }) => status(run(alloc, units, source, sink)),
+        Some(Form::Check) => check(alloc, source, sink),
         None => match send(sink, USAGE) {
             Ok(()) => 1,
             Err(Failed) => 5,

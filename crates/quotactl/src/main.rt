@@ -2,7 +2,9 @@
 #![tactic(auto)]
 
 mod asked;
+mod check;
 mod control;
+mod form;
 mod session;
 mod texts;
 

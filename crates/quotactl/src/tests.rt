@@ -96,7 +96,10 @@ fn sessions_are_answered_whole(rt: HostRuntime) -> Result<(), Fail> {
 
 #[test]
 fn units_have_their_range_and_words_their_form(rt: HostRuntime) -> Result<(), Fail> {
-    let table: [&[&str]; 12] = [
+    let table: [&[&str]; 15] = [
+        &["check", "5"],
+        &["Check"],
+        &["check", "check"],
         &["session", "0"],
         &["session", "8796093022208"],
         &["session", "18446744073709551616"],
@@ -401,5 +404,132 @@ fn a_journal_of_65536_calls_is_full(rt: HostRuntime) -> Result<(), Fail> {
         written.as_slice().ends_with(b"a OK GETQUOTA completed\r\na NO [LIMIT] Journal full\r\n")
     );
     assert_eq!(rt; written.len(), 24 + 65536 * 53 + 27);
+    Ok(())
+}
+
+/// What `check` says of these bytes, and its status.
+fn checked(alloc: Global, bytes: &[u8]) -> Result<(u8, Vec<u8>), Fail> {
+    outcome(alloc, &plain(&["check"], bytes))
+}
+
+#[test]
+fn ledgers_are_checked(rt: HostRuntime) -> Result<(), Fail> {
+    let table: [(&[u8], &[u8], u8); 16] = [
+        // Two lines are added up.
+        (
+            b"10000000S,1000C\n1234 1\n-1234 -1\n",
+            b"definition 10000000S,1000C\nlines 2\noctets 0\nmessages 0\n",
+            0,
+        ),
+        // The same without the last line feed.
+        (b"10000000S,1000C\n1234 1\n-1234 -1", b"torn at 23\n", 3),
+        (b"1S;\n", b"bad definition at 0\n", 3),
+        (b"1S\n1\nx\n", b"bad line 2\n", 3),
+        (b"", b"torn at 0\n", 3),
+        (b"\n", b"definition 0S\nlines 0\noctets 0\nmessages 0\n", 0),
+        (
+            b"5C,7S\n",
+            b"definition 7S,5C\nlines 0\noctets 0\nmessages 0\n",
+            0,
+        ),
+        (
+            b"1S,2S,3s\n  -5   -1  \n",
+            b"definition 2S\nlines 1\noctets -5\nmessages -1\n",
+            0,
+        ),
+        (
+            b"5S,0S\n",
+            b"definition 0S\nlines 0\noctets 0\nmessages 0\n",
+            0,
+        ),
+        (
+            b"0S\n999999999999999999 1\n999999999999999999 1\n",
+            b"definition 0S\nlines 2\noctets 1999999999999999998\nmessages 2\n",
+            0,
+        ),
+        (b"0S\n1000000000000000000 1\n", b"bad line 2\n", 3),
+        (b"0S\n1\t1\n", b"bad line 2\n", 3),
+        (b"0S\n1 1\r\n", b"bad line 2\n", 3),
+        (b"1S,\n", b"bad definition at 3\n", 3),
+        (b"1S", b"torn at 0\n", 3),
+        (b"1S\n1 1\nx", b"torn at 7\n", 3),
+    ];
+    for (bytes, output, status) in table {
+        for piece in [1, 4096] {
+            let run = Run {
+                piece,
+                ..plain(&["check"], bytes)
+            };
+            let (ended, written) = outcome(rt.alloc(), &run)?;
+            assert_eq!(rt; written.as_slice(), output, "{bytes:?}");
+            assert_eq!(rt; ended, status, "{bytes:?}");
+        }
+    }
+    Ok(())
+}
+
+#[test]
+fn long_ledgers_are_checked(rt: HostRuntime) -> Result<(), Fail> {
+    let alloc = rt.alloc();
+    // A definition of 2 or 3 bytes with its line feed, and 1279 lines of 4 bytes.
+    for (definition, length) in [("0S", 5119), ("00S", 5120)] {
+        let mut ledger = definition.as_bytes().to_vec(alloc)?;
+        ledger.push(b'\n')?;
+        for _ in 0..1279 {
+            ledger.extend_from_slice(b"0 0\n")?;
+        }
+        assert_eq!(rt; ledger.len(), length);
+        let (status, written) = checked(alloc, &ledger)?;
+        let whole: &[u8] = b"definition 0S\nlines 1279\noctets 0\nmessages 0\n";
+        let refused: &[u8] = b"too long 5120\n";
+        assert_eq!(rt;
+            written.as_slice(),
+            if length == 5119 { whole } else { refused }
+        );
+        assert_eq!(rt; status, if length == 5119 { 0 } else { 3 });
+    }
+    // Of a longer input 65536 bytes are read, and the next is not asked for.
+    let table: [(usize, &[u8]); 4] = [
+        (65535, b"too long 65535\n"),
+        (65536, b"too long 65536\n"),
+        (65537, b"too long 65536\n"),
+        (200000, b"too long 65536\n"),
+    ];
+    for (length, output) in table {
+        let bytes = vec![in alloc; b'x'; length]?;
+        let run = Run {
+            piece: 65536,
+            failing_reads: if length < 65536 { &[] } else { &[17, 18] },
+            ..plain(&["check"], &bytes)
+        };
+        let (status, written) = outcome(alloc, &run)?;
+        assert_eq!(rt; written.as_slice(), output, "{length} bytes");
+        assert_eq!(rt; status, 3, "{length} bytes");
+    }
+    Ok(())
+}
+
+#[test]
+fn faults_end_a_check(rt: HostRuntime) -> Result<(), Fail> {
+    for read in 1..8 {
+        let run = Run {
+            piece: 1,
+            failing_reads: &[read],
+            ..plain(&["check"], b"1S\n1 1\n")
+        };
+        let (status, written) = outcome(rt.alloc(), &run)?;
+        assert_eq!(rt; status, 4, "read {read}");
+        assert!(rt; written.is_empty(), "read {read}");
+    }
+    for write in 1..43 {
+        let run = Run {
+            piece: 1,
+            failing_writes: &[write],
+            ..plain(&["check"], b"1S\n1 1\n")
+        };
+        let (status, written) = outcome(rt.alloc(), &run)?;
+        assert_eq!(rt; status, 5, "write {write}");
+        assert_eq!(rt; written.len() + 1, write as usize, "write {write}");
+    }
     Ok(())
 }

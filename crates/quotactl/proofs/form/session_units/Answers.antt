@@ -1,7 +1,7 @@
 use Rattle.std.proofs.Common.{ap, ◌∙◌, sym, map, ◌∷◌, [], codes, refl}
 use Rattle.std.specs.String.{string_bytes}
 use Rattle.quotactl.proofs.Controlling.{two_words}
-use Rattle.quotactl.proofs.control.session_units.Goals as goal
+use Rattle.quotactl.proofs.form.session_units.Goals as goal
 
 pub returns-in-Some-clause-some : goal.returns-in-Some-clause-some
 returns-in-Some-clause-some c =

@@ -1,0 +1,151 @@
+// The command `check`: what a ledger holds.
+ghost use Rattle.std.specs.Prelude.{◌≡◌, ◌≢◌, ◌++◌, codes, OnOk, IfOk, IfErr};
+ghost use Rattle.wire_io.specs.Causes.{Rose};
+ghost use Rattle.maildirsize.specs.Reading.{SumsUp, fault_of};
+ghost use Rattle.maildirsize.specs.Written.{written_definition};
+ghost use Rattle.quotactl.specs.Checking.{said, sums_text, values_text, fault_text, Tells, TakesLedger, TakesSome, ChecksLedger};
+
+use itoa::{Buffer, Integer};
+use maildirsize::{LedgerFault, LedgerText, Text, print_definition, read_ledger};
+use quota_units::Limits;
+use std::alloc::{AllocError, Global};
+use wire_io::{Failed, Feed, FeedEnd, Sink, Source, send};
+
+/// The most bytes that are read.
+const MAX_CHECKED: usize = 65536;
+
+/// Why a ledger's bytes were not read.
+#[derive(Clone, Copy, Debug, PartialEq, Eq)]
+enum Unread {
+    /// The source failed.
+    Fault,
+    /// There was no memory.
+    NoMemory,
+}
+
+/// All bytes of the source, or so many as are read.
+fn ledger_bytes<S: Source>(alloc: Global, source: &mut S) -> Result<Vec<u8>, Unread>
+    ensures ok { IfOk result (λ bytes. TakesLedger (S.left source.old) (S.left source.new) bytes.items) }
+    ensures err { IfErr result (λ e. TakesSome (S.left source.old) (S.left source.new)) }
+    ensures read_fault { result ≡ Err Unread.Fault → Rose (S.faults source.old) (S.faults source.new) }
+    ensures read_kept { result ≢ Err Unread.Fault → S.faults source.new ≡ S.faults source.old }
+{
+    let mut bytes = Vec::new(alloc);
+    let Ok(mut feed) = Feed::new(source, MAX_CHECKED as u64) else {
+        unreachable!()
+    };
+    match feed.exact(&mut bytes, MAX_CHECKED) {
+        Ok(()) | Err(FeedEnd::Ended) => Ok(bytes),
+        Err(FeedEnd::Fault) => Err(Unread::Fault),
+        Err(FeedEnd::NoMemory) => Err(Unread::NoMemory),
+        Err(FeedEnd::Limit) => unreachable!(),
+    }
+}
+
+/// Words, and a value in them, on a line.
+fn push_said(out: &mut Vec<u8>, words: &[u8], value: &[u8]) -> Result<(), AllocError>
+    ensures { OnOk result (out.new.items ≡ out.old.items ++ said words.now value.now) }
+{
+    out.extend_from_slice(words)?;
+    out.extend_from_slice(value)?;
+    out.extend_from_slice(b"\n")
+}
+
+/// Words, and a number in them, on a line.
+fn push_number<I: Integer>(out: &mut Vec<u8>, words: &[u8], number: I) -> Result<(), AllocError>
+    ensures { OnOk result (out.new.items ≡ out.old.items ++ said words.now (I.text number)) }
+{
+    push_said(out, words, Buffer::new().format(number).as_bytes())
+}
+
+/// The limits of a ledger's definition, as they are written.
+fn push_definition(out: &mut Vec<u8>, limits: &Limits) -> Result<(), AllocError>
+    ensures { OnOk result (out.new.items ≡ out.old.items ++ said (codes "definition ") (written_definition limits.now)) }
+{
+    let mut definition = Text::new();
+    print_definition(limits, &mut definition);
+    push_said(out, b"definition ", definition.as_slice())
+}
+
+/// The sum of a ledger's octets.
+fn octets_of(ledger: &LedgerText) -> i128
+    ensures { result ≡ ledger.now.octets }
+{
+    ledger.octets
+}
+
+/// The sum of a ledger's messages.
+fn count_of(ledger: &LedgerText) -> i128
+    ensures { result ≡ ledger.now.count }
+{
+    ledger.count
+}
+
+/// The sums of a ledger.
+fn push_sums(out: &mut Vec<u8>, ledger: &LedgerText) -> Result<(), AllocError>
+    ensures { OnOk result (out.new.items ≡ out.old.items ++ sums_text ledger.now.octets ledger.now.count) }
+{
+    push_number(out, b"octets ", octets_of(ledger))?;
+    push_number(out, b"messages ", count_of(ledger))
+}
+
+/// What a ledger holds, line by line.
+fn push_values(out: &mut Vec<u8>, ledger: &LedgerText) -> Result<(), AllocError>
+    ensures { OnOk result (out.new.items ≡ out.old.items ++ values_text ledger.now) }
+{
+    push_definition(out, &ledger.limits)?;
+    push_number(out, b"lines ", ledger.lines)?;
+    push_sums(out, ledger)
+}
+
+/// What is wrong with a ledger.
+fn push_fault(out: &mut Vec<u8>, fault: LedgerFault) -> Result<(), AllocError>
+    ensures { OnOk result (out.new.items ≡ out.old.items ++ fault_text fault) }
+{
+    match fault {
+        LedgerFault::TooLong { length } => push_number(out, b"too long ", length),
+        LedgerFault::BadDefinition { at } => push_number(out, b"bad definition at ", at),
+        LedgerFault::BadLine { line } => push_number(out, b"bad line ", line),
+        LedgerFault::Torn { at } => push_number(out, b"torn at ", at),
+    }
+}
+
+/// What these bytes are answered with, and the exit status.
+fn told(alloc: Global, bytes: &[u8]) -> Result<(Vec<u8>, u8), AllocError>
+    ensures { IfOk result (λ x. Tells bytes.now x.0.items x.1) }
+{
+    let mut text = Vec::new(alloc);
+    match read_ledger(bytes) {
+        Ok(ledger) => {
+            push_values(&mut text, &ledger)?;
+            Ok((text, 0))
+        }
+        Err(fault) => {
+            push_fault(&mut text, fault)?;
+            Ok((text, 3))
+        }
+    }
+}
+
+/// Reads a ledger from the source, to its end or 65536 bytes of it, and writes what it holds, or what is wrong with it. Gives the
+/// exit status.
+pub fn check<S: Source, O: Sink>(alloc: Global, source: &mut S, sink: &mut O) -> u8
+    ensures checks { ChecksLedger (S.left source.old) (S.left source.new) (O.written sink.old) (O.written sink.new) result }
+    ensures read_fault { result ≡ 4 → Rose (S.faults source.old) (S.faults source.new) }
+    ensures read_kept { result ≢ 4 → S.faults source.new ≡ S.faults source.old }
+    ensures write_fault { result ≡ 5 → Rose (O.faults sink.old) (O.faults sink.new) }
+    ensures write_kept { result ≢ 5 → O.faults sink.new ≡ O.faults sink.old }
+{
+    let bytes = match ledger_bytes(alloc, source) {
+        Ok(bytes) => bytes,
+        Err(Unread::Fault) => return 4,
+        Err(Unread::NoMemory) => return 6,
+    };
+    let Ok((text, status)) = told(alloc, &bytes) else {
+        return 6;
+    };
+    match send(sink, &text) {
+        Ok(()) => status,
+        Err(Failed) => 5,
+    }
+}

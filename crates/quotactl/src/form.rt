@@ -1,0 +1,79 @@
+// The words of the program, after its name.
+ghost use Rattle.std.specs.Prelude.{◌≡◌, ◌<◌, ◌≤◌, ◌↔◌, ℕ, [], ◌∷◌, IsTrue, map, codes, IfSome, IfNone};
+ghost use Rattle.std.specs.String.{string_bytes};
+ghost use Rattle.std.specs.Fmt.{decimal};
+ghost use Rattle.quotactl.specs.Words.{IsSessionForm, IsForm, IsNoForm};
+
+use quota_units::numeral_in;
+
+/// What the words say is to be done.
+#[derive(Clone, Copy, Debug, PartialEq, Eq)]
+pub enum Form {
+    /// A session for the owner of an account with so many units of storage.
+    Session { units: u64 },
+    /// To say what a ledger holds.
+    Check,
+}
+
+/// The units of storage that a word names: 1 to 8796093022207, in decimal digits with no leading zero.
+fn units_in(word: &[u8]) -> Option<u64>
+    ensures some { IfSome result (λ n. (word.now ≡ decimal n) × (0 < n) × (n ≤ 8796093022207)) }
+    ensures none { IfNone result ((n : ℕ) → word.now ≡ decimal n → 0 < n → n ≤ 8796093022207 → ⊥) }
+{
+    match numeral_in(word) {
+        Some(n) if 0 < n && n <= 8796093022207 => Some(n),
+        _ => None,
+    }
+}
+
+/// Whether the word is `session`.
+fn is_session(word: &[u8]) -> bool
+    ensures { IsTrue result ↔ (word.now ≡ codes "session") }
+{
+    word == b"session".as_slice()
+}
+
+/// Whether the word is `check`.
+fn is_check(word: &[u8]) -> bool
+    ensures { IsTrue result ↔ (word.now ≡ codes "check") }
+{
+    word == b"check".as_slice()
+}
+
+/// The units of storage, where the words are `session N`.
+fn session_units(words: &[String]) -> Option<u64>
+    ensures some { IfSome result (λ n. IsSessionForm (map string_bytes words.now) n) }
+    ensures none { IfNone result ((n : ℕ) → IsSessionForm (map string_bytes words.now) n → ⊥) }
+{
+    match words {
+        [form, number] if is_session(form.as_bytes()) => match units_in(number.as_bytes()) {
+            Some(n) => Some(n),
+            None => None,
+        },
+        _ => None,
+    }
+}
+
+/// Whether the words are `check`.
+fn are_check(words: &[String]) -> bool
+    ensures { IsTrue result ↔ (map string_bytes words.now ≡ codes "check" ∷ []) }
+{
+    match words {
+        [form] => is_check(form.as_bytes()),
+        _ => false,
+    }
+}
+
+/// What the words say; `None` where they are of no form.
+pub fn form_of(words: &[String]) -> Option<Form>
+    ensures some { IfSome result (λ form. IsForm (map string_bytes words.now) form) }
+    ensures none { IfNone result (IsNoForm (map string_bytes words.now)) }
+{
+    if are_check(words) {
+        return Some(Form::Check);
+    }
+    match session_units(words) {
+        Some(units) => Some(Form::Session { units }),
+        None => None,
+    }
+}
