@@ -1,6 +1,7 @@
-ghost use Rattle.std.specs.Prelude.{◌≡◌, ◌≢◌, ◌≤◌, ◌↔◌, [], length, IsOk, IfOk, IsErrOf};
+ghost use Rattle.std.specs.Prelude.{◌≡◌, ◌≢◌, ◌≤◌, ◌↔◌, [], ◌∷◌, length, IsOk, IfOk, IsErrOf};
+ghost use Rattle.quota_roots.specs.RootLists.{name_at};
 ghost use Rattle.account_core.specs.History.{Serves};
-ghost use Rattle.account_core.specs.Plain.{plain_opened, plain_reply, plain_limits};
+ghost use Rattle.account_core.specs.Plain.{plain_root, plain_opened, plain_reply, plain_limits};
 
 use crate::{Call, Entry, Reply, RootRow, RootRows, StepError};
 use quota_units::{Limits, Name, NoMemory};
@@ -44,6 +45,13 @@ impl PlainAccount {
             limits,
             history: Vec::new(alloc),
         })
+    }
+
+    /// The name of the root of this number, which is empty; the number of no root has none.
+    pub fn root_name(&self, root: u32) -> &[u8]
+        ensures { result.now ≡ name_at (plain_root ∷ []) root }
+    {
+        b""
     }
 
     /// Answers a call of the account's owner, who is caller 0.

@@ -1,4 +1,14 @@
+pub mod Choices
 pub mod Escaping
 pub mod Many
 pub mod Tags
+pub mod Takes
+pub mod Spelled
+pub mod Names
+pub mod Numbers
+pub mod LimitLists
+pub mod Digits
+pub mod Quoting
+pub mod LimitLoop
 pub mod Table
+pub mod PrintedNames

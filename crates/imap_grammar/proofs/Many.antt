@@ -9,7 +9,7 @@ with_front front (got bytes rest) = got (front ++ bytes) rest
 with_front front (wrong rest) = wrong rest
 with_front front short = short
 
-front_first : (front : List ℕ) (b : ℕ) (reading : Reading (List ℕ)) → with_front front (with_first b reading) ≡ with_front (front ++ b ∷ []) reading
+pub front_first : (front : List ℕ) (b : ℕ) (reading : Reading (List ℕ)) → with_front front (with_first b reading) ≡ with_front (front ++ b ∷ []) reading
 front_first front b (got bytes rest) = ap (λ l. got l rest) (sym (append_assoc front (b ∷ []) bytes))
 front_first front b (wrong rest) = refl
 front_first front b short = refl

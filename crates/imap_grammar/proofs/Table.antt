@@ -1,92 +1,27 @@
 -- What is read is a command of the table, and each command of the table is read.
-use Rattle.std.proofs.Common.{◌≡◌, ℕ, ◌+◌, ◌<◌, ◌≤◌, ◌⊎◌, Bool, true, false, ◌&&◌, ltb, leb, List, [], ◌∷◌, ◌++◌, length, take, map, Option, Some, None, refl, sym, ap, ◌∙◌, subst, inl, inr, arith, if◌then◌else◌, append_assoc, append-nil, length-append, bytes_eq, codes, eqb, eqb-true, lt-ltb, le-leb}
+use Rattle.std.proofs.Common.{◌≡◌, ℕ, ◌+◌, ◌<◌, ◌≤◌, ◌⊎◌, Bool, true, false, ◌&&◌, ltb, leb, List, [], ◌∷◌, ◌++◌, length, take, map, Option, Some, None, refl, sym, ap, ◌∙◌, subst, inl, inr, arith, if◌then◌else◌, append_assoc, append-nil, length-append, bytes_eq, codes, lt-ltb, le-leb}
 use Rattle.std.specs.List.{list_all}
 use Rattle.std.specs.Char.{to_ascii_lowercase, is_ascii_lowercase}
 use Rattle.std.proofs.lemmas.Bool.Decides.{nat_tests, leb_tells}
 use Rattle.std.proofs.lemmas.List.{take_at}
 use Rattle.std.proofs.lemmas.Slice.Eq.{bytes_eq-Decides}
 use Rattle.std.proofs.lemmas.Str.Ascii.{lowercase_is}
+use Rattle.imap_grammar.specs.declared.limits.AskedLimit.{AskedLimit}
 use Rattle.imap_grammar.specs.declared.command.Command.{Command}
-use Rattle.imap_grammar.specs.declared.command.Command.TheVariants.{GetQuota, Logout}
-use Rattle.imap_grammar.specs.Bytes.{is_tag_byte, is_letter}
-use Rattle.imap_grammar.specs.Grammar.{Tagged, IsTag, IsLineEnd, IsWord, IsBody, IsCommand}
-use Rattle.imap_grammar.specs.Reading.{Reading, got, wrong, short, Reader, and_then, gives, fails, byte, with_first, many, line_end}
-use Rattle.imap_grammar.specs.Commands.{getquota, logout, word_of, checked_tag, tag_at, getquota_arguments, logout_arguments, arguments_of, command_at, all_read, command_in}
-
--- what is read stands at the front of the text, spelled so
-abbrev Takes : {A : Type 0} → (List ℕ → A → Type 0) → List ℕ → Reading A → Type 0
-Takes P text (got value rest) = (bytes : List ℕ) × P bytes value × (text ≡ bytes ++ rest)
-Takes P text (wrong rest) = Unit {0}
-Takes P text short = Unit {0}
-
--- one spelling, and then another
-abbrev Both : {A B : Type 0} → (List ℕ → A → Type 0) → (A → List ℕ → B → Type 0) → List ℕ → B → Type 0
-Both {A} P Q bytes w = (a b : List ℕ) × (v : A) × P a v × Q v b w × (bytes ≡ a ++ b)
-
-behind : {A B : Type 0} (P : List ℕ → A → Type 0) (Q : A → List ℕ → B → Type 0) (text front rest : List ℕ) (v : A) (reading : Reading B)
-    → P front v → text ≡ front ++ rest → Takes (Q v) rest reading → Takes (Both P Q) text reading
-behind P Q text front rest v (got w more) p e q = (front ++ q.0, (front, q.0, v, p, q.1, refl), e ∙ ap (λ l. front ++ l) q.2 ∙ sym (append_assoc front q.0 more))
-behind P Q text front rest v (wrong more) p e q = tt
-behind P Q text front rest v short p e q = tt
-
-takes_then : {A B : Type 0} (P : List ℕ → A → Type 0) (Q : A → List ℕ → B → Type 0) (text : List ℕ) (reading : Reading A) (next : A → Reader B)
-    → Takes P text reading → ((v : A) (rest : List ℕ) → Takes (Q v) rest (next v rest)) → Takes (Both P Q) text (and_then reading next)
-takes_then P Q text (got v rest) next p q = behind P Q text p.0 rest v (next v rest) p.1 p.2 (q v rest)
-takes_then P Q text (wrong rest) next p q = tt
-takes_then P Q text short next p q = tt
-
-takes_weaker : {A : Type 0} (P Q : List ℕ → A → Type 0) (text : List ℕ) (reading : Reading A) → ((bytes : List ℕ) (v : A) → P bytes v → Q bytes v) → Takes P text reading → Takes Q text reading
-takes_weaker P Q text (got v rest) f p = (p.0, f p.0 v p.1, p.2)
-takes_weaker P Q text (wrong rest) f p = tt
-takes_weaker P Q text short f p = tt
-
-takes_if : {A : Type 0} (P : List ℕ → A → Type 0) (c : Bool) (text : List ℕ) (x y : Reading A) → (c ≡ true → Takes P text x) → (c ≡ false → Takes P text y) → Takes P text (if c then x else y)
-takes_if P true text x y one other = one refl
-takes_if P false text x y one other = other refl
-
--- the kinds of spelling
-abbrev Byte : ℕ → List ℕ → Unit {0} → Type 0
-Byte b bytes u = bytes ≡ b ∷ []
-
-abbrev Run : (ℕ → Bool) → List ℕ → List ℕ → Type 0
-Run is bytes v = (v ≡ bytes) × (list_all is bytes ≡ true)
-
-abbrev End : List ℕ → Unit {0} → Type 0
-End bytes u = IsLineEnd bytes
-
-abbrev Nothing : {A : Type 0} → A → List ℕ → A → Type 0
-Nothing value bytes v = (bytes ≡ []) × (v ≡ value)
-
-takes_byte : (b : ℕ) (text : List ℕ) → Takes (Byte b) text (byte b text)
-takes_byte b [] = tt
-takes_byte b (x ∷ xs) = takes_if (Byte b) (eqb x b) (x ∷ xs) (got tt xs) (wrong (x ∷ xs)) (λ e. (x ∷ [], ap (λ c. c ∷ []) (eqb-true x b e), refl)) (λ e. tt)
-
-takes_fails : {A : Type 0} (P : List ℕ → A → Type 0) (text : List ℕ) → Takes P text (fails text)
-takes_fails P [] = tt
-takes_fails P (x ∷ xs) = tt
-
-takes_gives : {A : Type 0} (value : A) (text : List ℕ) → Takes (Nothing value) text (gives value text)
-takes_gives value text = ([], (refl, refl), refl)
-
-run_more : (is : ℕ → Bool) (b : ℕ) (bs : List ℕ) (reading : Reading (List ℕ)) → is b ≡ true → Takes (Run is) bs reading → Takes (Run is) (b ∷ bs) (with_first b reading)
-run_more is b bs (got v rest) holds p = (b ∷ p.0, (ap (λ l. b ∷ l) p.1.0, ap (λ c. c && list_all is p.0) holds ∙ p.1.1), ap (λ l. b ∷ l) p.2)
-run_more is b bs (wrong rest) holds p = tt
-run_more is b bs short holds p = tt
-
-takes_many : (is : ℕ → Bool) (text : List ℕ) → Takes (Run is) text (many is text)
-takes_many is [] = tt
-takes_many is (b ∷ bs) = takes_if (Run is) (is b) (b ∷ bs) (with_first b (many is bs)) (got [] (b ∷ bs)) (λ e. run_more is b bs (many is bs) e (takes_many is bs)) (λ e. ([], (refl, refl), refl))
-
-cr_end : (b : ℕ) (bs : List ℕ) (reading : Reading (Unit {0})) → b ≡ 13 → Takes (Byte 10) bs reading → Takes End (b ∷ bs) reading
-cr_end b bs (got v rest) e p = (13 ∷ 10 ∷ [], inr refl, ap (λ c. c ∷ bs) e ∙ ap (λ l. 13 ∷ l) (p.2 ∙ ap (λ l. l ++ rest) p.1))
-cr_end b bs (wrong rest) e p = tt
-cr_end b bs short e p = tt
-
-takes_end : (text : List ℕ) → Takes End text (line_end text)
-takes_end [] = tt
-takes_end (b ∷ bs) = takes_if End (eqb b 10) (b ∷ bs) (got tt bs) (if eqb b 13 then byte 10 bs else wrong (b ∷ bs))
-    (λ e. (10 ∷ [], inl refl, ap (λ c. c ∷ bs) (eqb-true b 10 e)))
-    (λ e. takes_if End (eqb b 13) (b ∷ bs) (byte 10 bs) (wrong (b ∷ bs)) (λ f. cr_end b bs (byte 10 bs) (eqb-true b 13 f) (takes_byte 10 bs)) (λ f. tt))
+use Rattle.imap_grammar.specs.declared.command.Command.TheVariants.{GetQuota, GetQuotaRoot, SetQuota, Logout}
+use Rattle.imap_grammar.specs.declared.word.Word.{Word}
+use Rattle.imap_grammar.specs.declared.word.Word.TheVariants.{GetQuota as GetQuotaWord, GetQuotaRoot as GetQuotaRootWord, SetQuota as SetQuotaWord, Logout as LogoutWord}
+use Rattle.imap_grammar.specs.Bytes.{is_tag_byte, is_letter, is_astring_byte}
+use Rattle.imap_grammar.specs.Grammar.{Tagged, IsTag, IsLineEnd, IsWord, IsAstring, IsLimits, IsBody, IsCommand}
+use Rattle.imap_grammar.specs.Reading.{Reading, got, wrong, short, Reader, and_then, gives, fails, byte, many, line_end}
+use Rattle.imap_grammar.specs.Astrings.{astring}
+use Rattle.imap_grammar.specs.LimitLists.{limits_closed}
+use Rattle.imap_grammar.specs.Commands.{word_named, word_of, checked_tag, tag_at, name_alone, name_and_limits, nothing_more, arguments_behind, is_allowed, allowed_arguments, arguments_of, command_at, all_read, command_in}
+use Rattle.imap_grammar.proofs.Choices.{choose, and_parts}
+use Rattle.imap_grammar.proofs.Takes.{Takes, Both, Run, Ends, takes_then, takes_weaker, takes_fails, takes_many, takes_ends, takes_next, behind}
+use Rattle.imap_grammar.proofs.Spelled.{run_spelled, end_spelled}
+use Rattle.imap_grammar.proofs.Names.{takes_astring, astring_spelled}
+use Rattle.imap_grammar.proofs.LimitLists.{Closed, takes_closed, closed_spelled}
 
 -- a tag
 abbrev Tag : List ℕ → List ℕ → Type 0
@@ -122,68 +57,135 @@ takes_tag text = go (many is_tag_byte text) (takes_many is_tag_byte text)
     go (wrong rest) p = tt
     go short p = tt
 
-step : (x : ℕ) (bytes a b : List ℕ) → bytes ≡ a ++ b → a ≡ x ∷ [] → bytes ≡ x ∷ b
-step x bytes a b e i = e ∙ ap (λ l. l ++ b) i
+-- the letters of a command's word
+abbrev letters_of : Word → List ℕ
+letters_of GetQuotaWord = codes "getquota"
+letters_of GetQuotaRootWord = codes "getquotaroot"
+letters_of SetQuotaWord = codes "setquota"
+letters_of LogoutWord = codes "logout"
 
-ends_all : {A : Type 0} (value v : A) (bytes a b : List ℕ) → bytes ≡ a ++ b → b ≡ [] → bytes ≡ a
-ends_all value v bytes a b e i = e ∙ ap (λ l. a ++ l) i ∙ append-nil a
-
--- the end of a line, and then the value
-abbrev Ends : {A : Type 0} → A → List ℕ → A → Type 0
-Ends value bytes v = IsLineEnd bytes × (v ≡ value)
-
-takes_ends : {A : Type 0} (value : A) (text : List ℕ) → Takes (Ends value) text (and_then (line_end text) (λ end. gives value))
-takes_ends {A} value text =
-    takes_weaker (Both End (λ u. Nothing value)) (Ends value) text (and_then (line_end text) (λ end. gives value)) same
-    (takes_then End (λ u. Nothing value) text (line_end text) (λ end. gives value) (takes_end text) (λ u rest. takes_gives value rest))
+word_is : (name : List ℕ) (word : Word) → word_named name ≡ Some word → name ≡ letters_of word
+word_is name word e = go (bytes_eq name (codes "getquota")) (bytes_eq name (codes "getquotaroot")) (bytes_eq name (codes "setquota")) (bytes_eq name (codes "logout"))
+    (bytes_eq-Decides name (codes "getquota")).0 (bytes_eq-Decides name (codes "getquotaroot")).0 (bytes_eq-Decides name (codes "setquota")).0 (bytes_eq-Decides name (codes "logout")).0 e
   where
-    same : (bytes : List ℕ) (v : A) → Both End (λ u. Nothing value) bytes v → Ends value bytes v
-    same bytes v (a, b, u, end, (none, is), e) = (subst IsLineEnd (sym (ends_all value v bytes a b e none)) end, is)
+    go : (a b c d : Bool) → (a ≡ true → name ≡ codes "getquota") → (b ≡ true → name ≡ codes "getquotaroot") → (c ≡ true → name ≡ codes "setquota") → (d ≡ true → name ≡ codes "logout")
+        → (if a then Some GetQuotaWord else if b then Some GetQuotaRootWord else if c then Some SetQuotaWord else if d then Some LogoutWord else None) ≡ Some word → name ≡ letters_of word
+    go true b c d f g h k i = f refl ∙ ap letters_of (same i)
+      where
+        same : Some GetQuotaWord ≡ Some word → GetQuotaWord ≡ word
+        same j = cc
+    go false true c d f g h k i = g refl ∙ ap letters_of (same i)
+      where
+        same : Some GetQuotaRootWord ≡ Some word → GetQuotaRootWord ≡ word
+        same j = cc
+    go false false true d f g h k i = h refl ∙ ap letters_of (same i)
+      where
+        same : Some SetQuotaWord ≡ Some word → SetQuotaWord ≡ word
+        same j = cc
+    go false false false true f g h k i = k refl ∙ ap letters_of (same i)
+      where
+        same : Some LogoutWord ≡ Some word → LogoutWord ≡ word
+        same j = cc
+    go false false false false f g h k i = absurd cc
 
--- one byte, and then more
-takes_next : {A : Type 0} (x : ℕ) (Q : List ℕ → A → Type 0) (text : List ℕ) (next : Reader A) → ((rest : List ℕ) → Takes Q rest (next rest))
-    → Takes (λ bytes v. (more : List ℕ) × Q more v × (bytes ≡ x ∷ more)) text (and_then (byte x text) (λ u. next))
-takes_next {A} x Q text next q =
-    takes_weaker (Both (Byte x) (λ u. Q)) (λ bytes v. (more : List ℕ) × Q more v × (bytes ≡ x ∷ more)) text (and_then (byte x text) (λ u. next)) same
-    (takes_then (Byte x) (λ u. Q) text (byte x text) (λ u. next) (takes_byte x text) (λ u. q))
+word_read : (letters : List ℕ) (word : Word) → IsWord (letters_of word) letters → word_of letters ≡ Some word
+word_read letters word e = ap word_named e ∙ of_word word
   where
-    same : (bytes : List ℕ) (v : A) → Both (Byte x) (λ u. Q) bytes v → (more : List ℕ) × Q more v × (bytes ≡ x ∷ more)
-    same bytes v (a, b, u, i, is, e) = (b, is, step x bytes a b e i)
+    of_word : (w : Word) → word_named (letters_of w) ≡ Some w
+    of_word GetQuotaWord = refl
+    of_word GetQuotaRootWord = refl
+    of_word SetQuotaWord = refl
+    of_word LogoutWord = refl
 
 -- the arguments of a command with these letters
 abbrev Arguments : Bool → List ℕ → List ℕ → Command → Type 0
 Arguments login letters bytes command = (rest end : List ℕ) × IsBody login (letters ++ rest) command × IsLineEnd end × (bytes ≡ rest ++ end)
 
-takes_getquota : (letters text : List ℕ) → IsWord (codes "getquota") letters → Takes (Arguments true letters) text (getquota_arguments text)
-takes_getquota letters text word =
-    takes_weaker (λ bytes v. (a : List ℕ) × ((b : List ℕ) × ((c : List ℕ) × Ends (GetQuota []) c v × (b ≡ 34 ∷ c)) × (a ≡ 34 ∷ b)) × (bytes ≡ 32 ∷ a)) (Arguments true letters) text (getquota_arguments text) same
-    (takes_next 32 (λ bytes v. (b : List ℕ) × ((c : List ℕ) × Ends (GetQuota []) c v × (b ≡ 34 ∷ c)) × (bytes ≡ 34 ∷ b)) text _ (λ rest.
-    takes_next 34 (λ bytes v. (c : List ℕ) × Ends (GetQuota []) c v × (bytes ≡ 34 ∷ c)) rest _ (λ rest2.
-    takes_next 34 (Ends (GetQuota [])) rest2 _ (takes_ends (GetQuota [])))))
-  where
-    same : (bytes : List ℕ) (v : Command) → (a : List ℕ) × ((b : List ℕ) × ((c : List ℕ) × Ends (GetQuota []) c v × (b ≡ 34 ∷ c)) × (a ≡ 34 ∷ b)) × (bytes ≡ 32 ∷ a) → Arguments true letters bytes v
-    same bytes v (a, (b, (c, (end, is), k), j), i) =
-        (codes " \"\"", c, subst (IsBody true (letters ++ codes " \"\"")) (sym is) (refl, letters, word, refl, refl), end, i ∙ ap (λ l. 32 ∷ l) (j ∙ ap (λ l. 34 ∷ l) k))
+-- a name and the line's end, behind a space
+abbrev Alone : List ℕ → List ℕ → Type 0
+Alone bytes name = (spelled end : List ℕ) × IsAstring spelled name × IsLineEnd end × (bytes ≡ 32 ∷ (spelled ++ end))
 
-takes_logout : (login : Bool) (letters text : List ℕ) → IsWord (codes "logout") letters → Takes (Arguments login letters) text (logout_arguments text)
-takes_logout login letters text word = takes_weaker (Ends Logout) (Arguments login letters) text (logout_arguments text) same (takes_ends Logout text)
+takes_alone : (text : List ℕ) → Takes Alone text (name_alone text)
+takes_alone text =
+    takes_weaker (λ bytes v. (more : List ℕ) × Both IsAstring Ends more v × (bytes ≡ 32 ∷ more)) Alone text (name_alone text) same
+    (takes_next 32 (Both IsAstring Ends) text _ (λ rest. takes_then IsAstring Ends rest (astring rest) _ (takes_astring rest) (λ name rest2. takes_ends name rest2)))
   where
-    same : (bytes : List ℕ) (v : Command) → Ends Logout bytes v → Arguments login letters bytes v
-    same bytes v (end, is) = ([], bytes, subst (IsBody login (letters ++ [])) (sym is) (subst (IsWord (codes "logout")) (sym (append-nil letters)) word), end, refl)
+    same : (bytes v : List ℕ) → (more : List ℕ) × Both IsAstring Ends more v × (bytes ≡ 32 ∷ more) → Alone bytes v
+    same bytes v (more, (a, b, name, is, (end, own), i), e) = (a, b, subst (IsAstring a) (sym own) is, end, e ∙ ap (λ l. 32 ∷ l) i)
 
-takes_word : (login c d : Bool) (letters text : List ℕ) → (c ≡ true → IsWord (codes "getquota") letters) → (d ≡ true → IsWord (codes "logout") letters)
-    → Takes (Arguments login letters) text (arguments_of login (if c then Some getquota else if d then Some logout else None) text)
-takes_word true true d letters text f g = takes_getquota letters text (f refl)
-takes_word false true d letters text f g = takes_fails (Arguments false letters) text
-takes_word true false true letters text f g = takes_logout true letters text (g refl)
-takes_word false false true letters text f g = takes_logout false letters text (g refl)
-takes_word true false false letters text f g = takes_fails (Arguments true letters) text
-takes_word false false false letters text f g = takes_fails (Arguments false letters) text
+named : (reading : Reading (List ℕ)) (text : List ℕ) (make : List ℕ → Command) (P : List ℕ → Command → Type 0) → ((bytes name : List ℕ) → Alone bytes name → P bytes (make name))
+    → Takes Alone text reading → Takes P text (and_then reading (λ name. gives (make name)))
+named (got name rest) text make P f p = (p.0, f p.0 name p.1, p.2)
+named (wrong rest) text make P f p = tt
+named short text make P f p = tt
+
+-- a name and limits, each behind a space, and the line's end
+abbrev WithLimits : List ℕ → Command → Type 0
+WithLimits bytes v = (root : List ℕ) × (limits : List AskedLimit) × (spelled list end : List ℕ) × IsAstring spelled root × IsLimits list limits × IsLineEnd end
+    × (v ≡ SetQuota root limits) × (bytes ≡ 32 ∷ (spelled ++ 32 ∷ 40 ∷ (list ++ 41 ∷ end)))
+
+-- limits and the line's end, behind a space and a parenthesis
+abbrev Listed : List ℕ → List ℕ → Command → Type 0
+Listed root bytes v = (more : List ℕ) × ((more2 : List ℕ) × Both Closed (λ limits. Ends (SetQuota root limits)) more2 v × (more ≡ 40 ∷ more2)) × (bytes ≡ 32 ∷ more)
+
+takes_limits : (text : List ℕ) → Takes WithLimits text (name_and_limits text)
+takes_limits text =
+    takes_weaker (λ bytes v. (more : List ℕ) × Both IsAstring Listed more v × (bytes ≡ 32 ∷ more)) WithLimits text (name_and_limits text) same
+    (takes_next 32 (Both IsAstring Listed) text _ (λ rest. takes_then IsAstring Listed rest (astring rest) _ (takes_astring rest) (λ root rest2.
+    takes_next 32 (λ bytes v. (more2 : List ℕ) × Both Closed (λ limits. Ends (SetQuota root limits)) more2 v × (bytes ≡ 40 ∷ more2)) rest2 _ (λ rest3.
+    takes_next 40 (Both Closed (λ limits. Ends (SetQuota root limits))) rest3 _ (λ rest4.
+    takes_then Closed (λ limits. Ends (SetQuota root limits)) rest4 (limits_closed rest4) _ (takes_closed rest4) (λ limits rest5. takes_ends (SetQuota root limits) rest5))))))
+  where
+    same : (bytes : List ℕ) (v : Command) → (more : List ℕ) × Both IsAstring Listed more v × (bytes ≡ 32 ∷ more) → WithLimits bytes v
+    same bytes v (more, (a, b, root, is, (c, (d, (f, g, limits, (list, are, h), (end, own), i), j), k), l), m) = (
+      root,
+      limits,
+      a,
+      list,
+      g,
+      is,
+      are,
+      end,
+      own,
+      m ∙ ap (λ x. 32 ∷ x) (l ∙ ap (λ x. a ++ x) (k ∙ ap (λ x. 32 ∷ x) (j ∙ ap (λ x. 40 ∷ x) (i ∙ ap (λ x. x ++ g) h ∙ append_assoc list (41 ∷ []) g)))),
+    )
+
+takes_behind : (login : Bool) (word : Word) (letters text : List ℕ) → is_allowed word login ≡ true → IsWord (letters_of word) letters → Takes (Arguments login letters) text (arguments_behind word text)
+takes_behind login GetQuotaWord letters text allowed is = named (name_alone text) text (λ root. GetQuota root) (Arguments login letters) own (takes_alone text)
+  where
+    own : (bytes name : List ℕ) → Alone bytes name → Arguments login letters bytes (GetQuota name)
+    own bytes name (spelled, end, is_name, is_end, e) = (32 ∷ spelled, end, (allowed, (letters, spelled, is, is_name, refl)), is_end, e)
+takes_behind login GetQuotaRootWord letters text allowed is = named (name_alone text) text (λ mailbox. GetQuotaRoot mailbox) (Arguments login letters) own (takes_alone text)
+  where
+    own : (bytes name : List ℕ) → Alone bytes name → Arguments login letters bytes (GetQuotaRoot name)
+    own bytes name (spelled, end, is_name, is_end, e) = (32 ∷ spelled, end, (allowed, (letters, spelled, is, is_name, refl)), is_end, e)
+takes_behind login SetQuotaWord letters text allowed is = takes_weaker WithLimits (Arguments login letters) text (name_and_limits text) own (takes_limits text)
+  where
+    own : (bytes : List ℕ) (v : Command) → WithLimits bytes v → Arguments login letters bytes v
+    own bytes v (root, limits, spelled, list, end, is_name, are, is_end, i, e) =
+        let whole : bytes ≡ (32 ∷ (spelled ++ 32 ∷ 40 ∷ (list ++ 41 ∷ []))) ++ end =
+        e ∙ ap (λ l. 32 ∷ (spelled ++ 32 ∷ 40 ∷ l)) (sym (append_assoc list (41 ∷ []) end)) ∙ ap (λ l. 32 ∷ l) (sym (append_assoc spelled (32 ∷ 40 ∷ (list ++ 41 ∷ [])) end)) in (
+          32 ∷ (spelled ++ 32 ∷ 40 ∷ (list ++ 41 ∷ [])),
+          end,
+          subst (IsBody login (letters ++ 32 ∷ (spelled ++ 32 ∷ 40 ∷ (list ++ 41 ∷ [])))) (sym i) (allowed, (letters, spelled, list, is, is_name, are, refl)),
+          is_end,
+          whole,
+        )
+takes_behind login LogoutWord letters text allowed is = takes_weaker (Ends Logout) (Arguments login letters) text (nothing_more text) own (takes_ends Logout text)
+  where
+    own : (bytes : List ℕ) (v : Command) → Ends Logout bytes v → Arguments login letters bytes v
+    own bytes v (end, i) = ([], bytes, subst (IsBody login (letters ++ [])) (sym i) (subst (IsWord (codes "logout")) (sym (append-nil letters)) is), end, refl)
 
 takes_arguments : (login : Bool) (letters text : List ℕ) → Takes (Arguments login letters) text (arguments_of login (word_of letters) text)
-takes_arguments login letters text =
-    takes_word login (bytes_eq (map to_ascii_lowercase letters) (codes "getquota")) (bytes_eq (map to_ascii_lowercase letters) (codes "logout")) letters text
-    (bytes_eq-Decides (map to_ascii_lowercase letters) (codes "getquota")).0 (bytes_eq-Decides (map to_ascii_lowercase letters) (codes "logout")).0
+takes_arguments login letters text = go (word_of letters) refl
+  where
+    by_login : (c : Bool) (word : Word) → is_allowed word login ≡ c → IsWord (letters_of word) letters → Takes (Arguments login letters) text (allowed_arguments c word text)
+    by_login true word e is = takes_behind login word letters text e is
+    by_login false word e is = takes_fails (Arguments login letters) text
+
+    go : (found : Option Word) → word_of letters ≡ found → Takes (Arguments login letters) text (arguments_of login found text)
+    go None e = takes_fails (Arguments login letters) text
+    go (Some word) e = by_login (is_allowed word login) word refl (word_is (map to_ascii_lowercase letters) word e)
 
 -- a word, its arguments and the line's end
 abbrev Line : Bool → List ℕ → Command → Type 0
@@ -234,20 +236,19 @@ read login text =
         let whole : bytes ≡ v.tag ++ 32 ∷ (body ++ end) = e ∙ ap (λ l. l ++ b) (sym is ∙ sym own) ∙ ap (λ l. v.tag ++ l) (j ∙ ap (λ l. 32 ∷ l) i) in
         (body, end, subst IsTag (sym is ∙ sym own) fits, is_body, is_end, whole)
 
+-- the texts of commands, part by part
+one_text : (body end next word spelled : List ℕ) → body ≡ word ++ 32 ∷ spelled → (body ++ end) ++ next ≡ word ++ 32 ∷ (spelled ++ (end ++ next))
+one_text body end next word spelled e =
+    append_assoc body end next ∙ ap (λ l. l ++ (end ++ next)) e ∙ append_assoc word (32 ∷ spelled) (end ++ next)
+
+limits_text : (body end next word spelled list : List ℕ) → body ≡ word ++ 32 ∷ (spelled ++ 32 ∷ 40 ∷ (list ++ 41 ∷ []))
+    → (body ++ end) ++ next ≡ word ++ 32 ∷ (spelled ++ 32 ∷ 40 ∷ (list ++ 41 ∷ (end ++ next)))
+limits_text body end next word spelled list e =
+    append_assoc body end next ∙ ap (λ l. l ++ (end ++ next)) e ∙ append_assoc word (32 ∷ (spelled ++ 32 ∷ 40 ∷ (list ++ 41 ∷ []))) (end ++ next)
+    ∙ ap (λ l. word ++ 32 ∷ l) (append_assoc spelled (32 ∷ 40 ∷ (list ++ 41 ∷ [])) (end ++ next))
+    ∙ ap (λ l. word ++ 32 ∷ (spelled ++ 32 ∷ 40 ∷ l)) (append_assoc list (41 ∷ []) (end ++ next))
+
 -- each command of the table is read
-and_parts : (a b : Bool) → (a && b) ≡ true → (a ≡ true) × (b ≡ true)
-and_parts a b h = grind (arith, nat_tests)
-
-run_spelled : (is : ℕ → Bool) (bytes : List ℕ) (b : ℕ) (rest : List ℕ) → list_all is bytes ≡ true → is b ≡ false → many is (bytes ++ b ∷ rest) ≡ got bytes (b ∷ rest)
-run_spelled is [] b rest each stops = ap (λ c. if c then with_first b (many is rest) else got [] (b ∷ rest)) stops
-run_spelled is (x ∷ bytes) b rest each stops =
-    let parts = and_parts (is x) (list_all is bytes) each in
-    ap (λ c. if c then with_first x (many is (bytes ++ b ∷ rest)) else got [] (x ∷ (bytes ++ b ∷ rest))) parts.0 ∙ ap (with_first x) (run_spelled is bytes b rest parts.1 stops)
-
-choose : {A : Type 0} (c : Bool) (x y : A) → c ≡ true → (if c then x else y) ≡ x
-choose true x y e = refl
-choose false x y e = absurd cc
-
 tag_spelled : (tag : List ℕ) (b : ℕ) (rest : List ℕ) → IsTag tag → is_tag_byte b ≡ false → tag_at (tag ++ b ∷ rest) ≡ got tag (b ∷ rest)
 tag_spelled tag b rest is stops =
     let fits : (ltb 0 (length tag) && leb (length tag) 64) ≡ true = both_true (ltb 0 (length tag)) (leb (length tag) 64) (lt-ltb 0 (length tag) is.some) (le-leb (length tag) 64 is.short) in
@@ -256,10 +257,6 @@ tag_spelled tag b rest is stops =
   where
     both_true : (c d : Bool) → c ≡ true → d ≡ true → (c && d) ≡ true
     both_true c d e f = ap (λ x. x && d) e ∙ f
-
-end_spelled : {A : Type 0} (value : A) (end next : List ℕ) → IsLineEnd end → and_then (line_end (end ++ next)) (λ e. gives value) ≡ got value next
-end_spelled value end next (inl e) = ap (λ l. and_then (line_end (l ++ next)) (λ x. gives value)) e
-end_spelled value end next (inr e) = ap (λ l. and_then (line_end (l ++ next)) (λ x. gives value)) e
 
 in_either : (c w : ℕ) → to_ascii_lowercase c ≡ w → 97 ≤ w → w ≤ 122 → (c < 65 → to_ascii_lowercase c ≡ c) → (90 < c → to_ascii_lowercase c ≡ c) → ((65 ≤ c) × (c ≤ 90)) ⊎ ((97 ≤ c) × (c ≤ 122))
 in_either c w e low high below above = elim (leb_tells c 64) [
@@ -283,12 +280,6 @@ letters_are (c ∷ bytes) (w ∷ word) e each =
     let parts = and_parts (is_ascii_lowercase w) (list_all is_ascii_lowercase word) each in
     ap (λ x. x && list_all is_letter bytes) (letter c w head parts.0) ∙ letters_are bytes word tail parts.1
 
-is_getquota : (letters : List ℕ) → IsWord (codes "getquota") letters → word_of letters ≡ Some getquota
-is_getquota letters e = ap (λ l. if bytes_eq l (codes "getquota") then Some getquota else if bytes_eq l (codes "logout") then Some logout else None) e
-
-is_logout : (letters : List ℕ) → IsWord (codes "logout") letters → word_of letters ≡ Some logout
-is_logout letters e = ap (λ l. if bytes_eq l (codes "getquota") then Some getquota else if bytes_eq l (codes "logout") then Some logout else None) e
-
 -- the command with this tag
 abbrev tag_with : List ℕ → Command → Reader Tagged
 tag_with tag command = gives (record { tag = tag; command = command })
@@ -297,35 +288,63 @@ tag_with tag command = gives (record { tag = tag; command = command })
 abbrev behind_tag : Bool → List ℕ → Reader Tagged
 behind_tag login tag text = and_then (many is_letter text) (λ letters text2. and_then (arguments_of login (word_of letters) text2) (tag_with tag))
 
+-- letters, and arguments that begin with no letter
+word_spelled : (login : Bool) (tag letters : List ℕ) (word : Word) (b : ℕ) (rest next : List ℕ) (command : Command) → IsWord (letters_of word) letters → list_all is_ascii_lowercase (letters_of word) ≡ true
+    → is_letter b ≡ false → is_allowed word login ≡ true → arguments_behind word (b ∷ rest) ≡ got command next
+    → behind_tag login tag (letters ++ b ∷ rest) ≡ got (record { tag = tag; command = command }) next
+word_spelled login tag letters word b rest next command is low stops allowed e =
+    ap (λ r. and_then r (λ found text2. and_then (arguments_of login (word_of found) text2) (tag_with tag))) (run_spelled is_letter letters b rest (letters_are letters (letters_of word) is low) stops)
+    ∙ ap (λ w. and_then (arguments_of login w (b ∷ rest)) (tag_with tag)) (word_read letters word is)
+    ∙ ap (λ c. and_then (allowed_arguments c word (b ∷ rest)) (tag_with tag)) allowed
+    ∙ ap (λ r. and_then r (tag_with tag)) e
+
+-- a name and the line's end
+alone_spelled : (spelled name end next : List ℕ) → IsAstring spelled name → IsLineEnd end → name_alone (32 ∷ (spelled ++ (end ++ next))) ≡ got name next
+alone_spelled spelled name end next is is_end = go is_end
+  where
+    behind_name : (b : ℕ) (rest : List ℕ) → end ++ next ≡ b ∷ rest → is_astring_byte b ≡ false → name_alone (32 ∷ (spelled ++ (end ++ next))) ≡ got name next
+    behind_name b rest e stops =
+        ap (λ l. and_then (astring (spelled ++ l)) (λ n text. and_then (line_end text) (λ u. gives n))) e
+        ∙ ap (λ r. and_then r (λ n text. and_then (line_end text) (λ u. gives n))) (astring_spelled spelled name b rest is stops)
+        ∙ ap (λ l. and_then (line_end l) (λ u. gives name)) (sym e) ∙ end_spelled name end next is_end
+
+    go : IsLineEnd end → name_alone (32 ∷ (spelled ++ (end ++ next))) ≡ got name next
+    go (inl e) = behind_name 10 next (ap (λ l. l ++ next) e) refl
+    go (inr e) = behind_name 13 (10 ∷ next) (ap (λ l. l ++ next) e) refl
+
+-- a name, limits and the line's end
+limits_spelled : (spelled root list : List ℕ) (limits : List AskedLimit) (end next : List ℕ) → IsAstring spelled root → IsLimits list limits → IsLineEnd end
+    → name_and_limits (32 ∷ (spelled ++ 32 ∷ 40 ∷ (list ++ 41 ∷ (end ++ next)))) ≡ got (SetQuota root limits) next
+limits_spelled spelled root list limits end next is are is_end =
+    ap (λ r. and_then r (λ n text. and_then (byte 32 text) (λ u text2. and_then (byte 40 text2) (λ u2 text3. and_then (limits_closed text3) (λ ls text4. and_then (line_end text4) (λ u3. gives (SetQuota n ls)))))))
+    (astring_spelled spelled root 32 (40 ∷ (list ++ 41 ∷ (end ++ next))) is refl)
+    ∙ ap (λ r. and_then r (λ ls text4. and_then (line_end text4) (λ u3. gives (SetQuota root ls)))) (closed_spelled list (end ++ next) limits are)
+    ∙ end_spelled (SetQuota root limits) end next is_end
+
 line_spelled : (login : Bool) (tag body end next : List ℕ) (command : Command) → IsBody login body command → IsLineEnd end
     → behind_tag login tag ((body ++ end) ++ next) ≡ got (record { tag = tag; command = command }) next
-line_spelled login tag body end next (GetQuota root) (logged_in, word, is_word, none, i) is_end =
-    let text : (body ++ end) ++ next ≡ word ++ 32 ∷ (34 ∷ 34 ∷ (end ++ next)) =
-    ap (λ l. (l ++ end) ++ next) i ∙ ap (λ l. l ++ next) (append_assoc word (codes " \"\"") end) ∙ append_assoc word (codes " \"\"" ++ end) next in
-    ap (behind_tag login tag) text
-    ∙ ap (λ r. and_then r (λ letters text2. and_then (arguments_of login (word_of letters) text2) (tag_with tag))) (run_spelled is_letter word 32 (34 ∷ 34 ∷ (end ++ next)) (letters_are word (codes "getquota") is_word refl) refl)
-    ∙ ap (λ w. and_then (arguments_of login w (32 ∷ 34 ∷ 34 ∷ (end ++ next))) (tag_with tag)) (is_getquota word is_word)
-    ∙ ap (λ b. and_then (arguments_of b (Some getquota) (32 ∷ 34 ∷ 34 ∷ (end ++ next))) (tag_with tag)) logged_in
-    ∙ ap (λ r. and_then r (tag_with tag)) (end_spelled (GetQuota []) end next is_end)
-    ∙ ap (λ n. got (record { tag = tag; command = GetQuota n }) next) (sym none)
-line_spelled login tag body end next Logout is is_end = logout_spelled is_end
+line_spelled login tag body end next (GetQuota root) (logged_in, (word, spelled, is_word, is, i)) is_end =
+    ap (behind_tag login tag) (one_text body end next word spelled i)
+    ∙ word_spelled login tag word GetQuotaWord 32 (spelled ++ (end ++ next)) next (GetQuota root) is_word refl refl logged_in
+    (ap (λ r. and_then r (λ n. gives (GetQuota n))) (alone_spelled spelled root end next is is_end))
+line_spelled login tag body end next (GetQuotaRoot mailbox) (logged_in, (word, spelled, is_word, is, i)) is_end =
+    ap (behind_tag login tag) (one_text body end next word spelled i)
+    ∙ word_spelled login tag word GetQuotaRootWord 32 (spelled ++ (end ++ next)) next (GetQuotaRoot mailbox) is_word refl refl logged_in
+    (ap (λ r. and_then r (λ n. gives (GetQuotaRoot n))) (alone_spelled spelled mailbox end next is is_end))
+line_spelled login tag body end next (SetQuota root limits) (logged_in, (word, spelled, list, is_word, is, are, i)) is_end =
+    ap (behind_tag login tag) (limits_text body end next word spelled list i)
+    ∙ word_spelled login tag word SetQuotaWord 32 (spelled ++ 32 ∷ 40 ∷ (list ++ 41 ∷ (end ++ next))) next (SetQuota root limits) is_word refl refl logged_in
+    (limits_spelled spelled root list limits end next is are is_end)
+line_spelled login tag body end next Logout is is_end = go is_end
   where
-    by_login : (l : Bool) → and_then (arguments_of l (Some logout) (end ++ next)) (tag_with tag) ≡ got (record { tag = tag; command = Logout }) next
-    by_login true = ap (λ r. and_then r (tag_with tag)) (end_spelled Logout end next is_end)
-    by_login false = ap (λ r. and_then r (tag_with tag)) (end_spelled Logout end next is_end)
-
     behind_word : (b : ℕ) (rest : List ℕ) → end ++ next ≡ b ∷ rest → is_letter b ≡ false → behind_tag login tag ((body ++ end) ++ next) ≡ got (record { tag = tag; command = Logout }) next
     behind_word b rest e stops =
-        let text : (body ++ end) ++ next ≡ body ++ b ∷ rest = append_assoc body end next ∙ ap (λ l. body ++ l) e in
-        ap (behind_tag login tag) text
-        ∙ ap (λ r. and_then r (λ letters text2. and_then (arguments_of login (word_of letters) text2) (tag_with tag))) (run_spelled is_letter body b rest (letters_are body (codes "logout") is refl) stops)
-        ∙ ap (λ w. and_then (arguments_of login w (b ∷ rest)) (tag_with tag)) (is_logout body is)
-        ∙ ap (λ l. and_then (arguments_of login (Some logout) l) (tag_with tag)) (sym e)
-        ∙ by_login login
+        ap (behind_tag login tag) (append_assoc body end next ∙ ap (λ l. body ++ l) e)
+        ∙ word_spelled login tag body LogoutWord b rest next Logout is refl stops refl (ap nothing_more (sym e) ∙ end_spelled Logout end next is_end)
 
-    logout_spelled : IsLineEnd end → behind_tag login tag ((body ++ end) ++ next) ≡ got (record { tag = tag; command = Logout }) next
-    logout_spelled (inl e) = behind_word 10 next (ap (λ l. l ++ next) e) refl
-    logout_spelled (inr e) = behind_word 13 (10 ∷ next) (ap (λ l. l ++ next) e) refl
+    go : IsLineEnd end → behind_tag login tag ((body ++ end) ++ next) ≡ got (record { tag = tag; command = Logout }) next
+    go (inl e) = behind_word 10 next (ap (λ l. l ++ next) e) refl
+    go (inr e) = behind_word 13 (10 ∷ next) (ap (λ l. l ++ next) e) refl
 
 pub spelled : (login : Bool) (bytes next : List ℕ) (tagged : Tagged) → IsCommand login bytes tagged → command_at login (bytes ++ next) ≡ got tagged next
 spelled login bytes next tagged (body, end, tag, is_body, is_end, e) =
@@ -372,3 +391,10 @@ tagged_in login text rest tagged command e none same =
   where
     tagged_eq : (a b : List ℕ) (c d : Command) → a ≡ b → c ≡ d → ◌≡◌ {A = Option Tagged} (Some (record { tag = b; command = d })) (Some (record { tag = a; command = c }))
     tagged_eq a b c d i j = cc
+
+-- a text is one command at most
+pub one_command : (login : Bool) (text : List ℕ) (one other : Tagged) → IsCommand login text one → IsCommand login text other → one ≡ other
+one_command login text one other is is_other = same (sym (command_spelled login text one is) ∙ command_spelled login text other is_other)
+  where
+    same : Some one ≡ Some other → one ≡ other
+    same e = cc

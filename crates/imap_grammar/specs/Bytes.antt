@@ -14,6 +14,10 @@ is_letter b = is_ascii_alphabetic b
 abbrev pub is_astring_byte : ℕ → Bool
 is_astring_byte b = b == 43 || is_tag_byte b
 
--- a byte that prints in ASCII, the space among them
-abbrev pub is_visible : ℕ → Bool
-is_visible b = nat_le 32 b && nat_le b 126
+-- a byte that stands between quotes behind a \ alone: " and \
+abbrev pub is_escaped : ℕ → Bool
+is_escaped b = b == 34 || b == 92
+
+-- a byte that may stand between quotes, as it is or behind a \: all but NUL, LF and CR
+abbrev pub is_quotable : ℕ → Bool
+is_quotable b = not (b == 0 || (b == 10 || b == 13))

@@ -1,6 +1,8 @@
 pub mod Bytes
-pub mod Grammar
 pub mod Printing
+pub mod Grammar
 pub mod Reading
+pub mod Astrings
+pub mod Numbers
+pub mod LimitLists
 pub mod Commands
-pub mod Kinds

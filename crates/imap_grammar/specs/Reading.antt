@@ -1,7 +1,7 @@
 -- Readings: what stands at the front of a text, and readers one after another.
 use Rattle.std.specs.Prelude.{◌≡◌, ℕ, Bool, ◌==◌, if◌then◌else◌, List, [], ◌∷◌, length, Result, Ok, Err}
 use Rattle.imap_grammar.specs.declared.readers.Stop.{Stop}
-use Rattle.imap_grammar.specs.declared.readers.Stop.TheVariants.{Wrong, Short}
+use Rattle.imap_grammar.specs.declared.readers.Stop.TheVariants.{Wrong, Short, Memory}
 
 pub data Reading (A : Type 0) : Type 0 where
   -- this stands there, and then the rest
@@ -56,10 +56,11 @@ abbrev pub line_end : Reader (Unit {0})
 line_end [] = short
 line_end (b ∷ bs) = if b == 10 then got tt bs else if b == 13 then byte 10 bs else wrong (b ∷ bs)
 
--- what a reader of the code answers is the reading
+-- what a reader of the code answers is the reading, but for want of memory
 abbrev pub Stops : {A : Type 0} → Stop → Reading A → Type 0
 Stops (Wrong left) reading = (rest : List ℕ) × (reading ≡ wrong rest) × (length rest ≡ left)
 Stops Short reading = reading ≡ short
+Stops Memory reading = Unit {0}
 
 abbrev pub Gives : {X A : Type 0} → (X → A) → (X → List ℕ) → Result X Stop → Reading A → Type 0
 Gives value rest (Ok x) reading = reading ≡ got (value x) (rest x)

@@ -1,11 +1,11 @@
 ghost use Rattle.std.specs.Prelude.{◌≡◌, ◌<◌, ℕ, List, Some, None, IfOk, IfErr, take, length};
 ghost use Rattle.imap_grammar.specs.Grammar.{Tagged, IsCommand};
 ghost use Rattle.imap_grammar.specs.Commands.{command_in};
-ghost use Rattle.imap_grammar.specs.Kinds.{command_of};
 
-use crate::kind::Kind;
+use crate::astring::Astring;
+use crate::limits::AskedLimits;
 use crate::parts::tagged;
-use quota_units::Name;
+use crate::readers::Stop;
 use std::alloc::Global;
 use thiserror::Error;
 
@@ -13,7 +13,11 @@ use thiserror::Error;
 #[derive(Debug, Drop)]
 pub enum Command {
     /// `GETQUOTA ROOT`: the root's usage and limits (RFC 9208, on GETQUOTA).
-    GetQuota { root: Name },
+    GetQuota { root: Astring },
+    /// `GETQUOTAROOT MAILBOX`: the roots that govern the mailbox (RFC 9208, on GETQUOTAROOT).
+    GetQuotaRoot { mailbox: Astring },
+    /// `SETQUOTA ROOT (RESOURCE LIMIT ...)`: the root's limits from now on (RFC 9208, on SETQUOTA).
+    SetQuota { root: Astring, limits: AskedLimits },
     /// `LOGOUT` (RFC 9051, section 6.1.3).
     Logout,
 }
@@ -28,12 +32,13 @@ pub enum CommandFault {
     NoMemory,
 }
 
-/// The command that a text is, from its tag to its line's end. `login` says whether the session is logged in: GETQUOTA is
-/// a command only then.
+/// The command that a text is, from its tag to its line's end. `login` says whether the session is logged in: only then
+/// are there other commands than LOGOUT.
 ///
 /// # Errors
 ///
-/// `NotBuilt` where the text is none of the commands `TAG GETQUOTA ""` and `TAG LOGOUT`, or `NoMemory`.
+/// `NotBuilt` where the text is none of the commands GETQUOTA, GETQUOTAROOT, SETQUOTA and LOGOUT, or names a root or a
+/// mailbox by a literal; or `NoMemory`.
 pub fn read_command(alloc: Global, text: &[u8], login: bool) -> Result<Command, CommandFault>
     ensures command { IfOk result (λ command. (tag : List ℕ) × IsCommand login text.now (record { tag = tag; command = command })) }
     ensures not_built { IfErr result (λ fault. fault ≡ CommandFault.NotBuilt → (tagged : Tagged) → IsCommand login text.now tagged → ⊥) }
@@ -58,26 +63,9 @@ pub fn read_tagged(
     ensures command { IfOk result (λ x. command_in login text.now ≡ Some (record { tag = take x.1 text.now; command = x.0 })) }
     ensures not_built { IfErr result (λ fault. fault ≡ CommandFault.NotBuilt → command_in login text.now ≡ None) }
 {
-    let Ok((tag, kind, rest)) = tagged(text, login) else {
-        return Err(CommandFault::NotBuilt);
-    };
-    if !rest.is_empty() {
-        return Err(CommandFault::NotBuilt);
-    }
-    let command = made(alloc, kind)?;
-    Ok((command, tag.len()))
-}
-
-/// The command of this word and these arguments.
-fn made(alloc: Global, kind: Kind) -> Result<Command, CommandFault>
-    ensures ok { IfOk result (λ command. command ≡ command_of kind) }
-    ensures memory { IfErr result (λ e. e ≡ CommandFault.NoMemory) }
-{
-    match kind {
-        Kind::GetQuota => match Name::of(alloc, b"") {
-            Ok(root) => Ok(Command::GetQuota { root }),
-            Err(_) => Err(CommandFault::NoMemory),
-        },
-        Kind::Logout => Ok(Command::Logout),
+    match tagged(alloc, text, login) {
+        Ok((tag, command, rest)) if rest.is_empty() => Ok((command, tag.len())),
+        Err(Stop::Memory) => Err(CommandFault::NoMemory),
+        _ => Err(CommandFault::NotBuilt),
     }
 }

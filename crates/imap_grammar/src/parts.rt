@@ -1,11 +1,14 @@
-// A command's parts, read one after another; no memory is taken.
+// A command's parts, read one after another.
 ghost use Rattle.std.specs.Prelude.{◌≡◌};
 ghost use Rattle.imap_grammar.specs.Reading.{Gives, FailsAt};
-ghost use Rattle.imap_grammar.specs.Commands.{tag_at, checked_tag, word_of, getquota_arguments, logout_arguments, arguments_of, command_at};
-ghost use Rattle.imap_grammar.specs.Kinds.{command_of};
+ghost use Rattle.imap_grammar.specs.Commands.{tag_at, checked_tag, word_of, name_alone, name_and_limits, arguments_behind, arguments_of, command_at};
 
-use crate::kind::Kind;
+use crate::astring::{Astring, name};
+use crate::command::Command;
+use crate::limits::limits_closed;
 use crate::readers::{Stop, byte, letters, line_end, tag_bytes};
+use crate::word::{Word, is_allowed, word_of};
+use std::alloc::Global;
 
 /// No text goes on so.
 fn stopped(rest: &[u8]) -> Stop
@@ -40,46 +43,72 @@ fn tag(text: &[u8]) -> Result<(&[u8], &[u8]), Stop>
     Ok((tag, rest))
 }
 
-fn getquota_arguments(text: &[u8]) -> Result<(Kind, &[u8]), Stop>
-    ensures { Gives (λ x. command_of x.0) (λ x. x.1.now) result (getquota_arguments text.now) }
+/// A space, a name and the line's end.
+fn name_alone(alloc: Global, text: &[u8]) -> Result<(Astring, &[u8]), Stop>
+    ensures { Gives (λ x. x.0) (λ x. x.1.now) result (name_alone text.now) }
 {
     let ((), rest) = byte(text, b' ')?;
-    let ((), rest) = byte(rest, b'"')?;
-    let ((), rest) = byte(rest, b'"')?;
+    let (name, rest) = name(alloc, rest)?;
     let ((), rest) = line_end(rest)?;
-    Ok((Kind::GetQuota, rest))
+    Ok((name, rest))
 }
 
-fn logout_arguments(text: &[u8]) -> Result<(Kind, &[u8]), Stop>
-    ensures { Gives (λ x. command_of x.0) (λ x. x.1.now) result (logout_arguments text.now) }
+/// A space, a name, a space, limits in parentheses and the line's end.
+fn name_and_limits(alloc: Global, text: &[u8]) -> Result<(Command, &[u8]), Stop>
+    ensures { Gives (λ x. x.0) (λ x. x.1.now) result (name_and_limits text.now) }
 {
-    let ((), rest) = line_end(text)?;
-    Ok((Kind::Logout, rest))
+    let ((), rest) = byte(text, b' ')?;
+    let (root, rest) = name(alloc, rest)?;
+    let ((), rest) = byte(rest, b' ')?;
+    let ((), rest) = byte(rest, b'(')?;
+    let (limits, rest) = limits_closed(alloc, rest)?;
+    let ((), rest) = line_end(rest)?;
+    Ok((Command::SetQuota { root, limits }, rest))
 }
 
 /// What follows a command's word.
-fn arguments<'a>(word: &[u8], text: &'a [u8], login: bool) -> Result<(Kind, &'a [u8]), Stop>
-    ensures { Gives (λ x. command_of x.0) (λ x. x.1.now) result (arguments_of login (word_of word.now) text.now) }
+fn arguments_behind(alloc: Global, word: Word, text: &[u8]) -> Result<(Command, &[u8]), Stop>
+    ensures { Gives (λ x. x.0) (λ x. x.1.now) result (arguments_behind word text.now) }
 {
-    if word.eq_ignore_ascii_case(b"getquota") {
-        if login {
-            return getquota_arguments(text);
+    match word {
+        Word::GetQuota => {
+            let (root, rest) = name_alone(alloc, text)?;
+            Ok((Command::GetQuota { root }, rest))
         }
-        return Err(stopped(text));
+        Word::GetQuotaRoot => {
+            let (mailbox, rest) = name_alone(alloc, text)?;
+            Ok((Command::GetQuotaRoot { mailbox }, rest))
+        }
+        Word::SetQuota => name_and_limits(alloc, text),
+        Word::Logout => {
+            let ((), rest) = line_end(text)?;
+            Ok((Command::Logout, rest))
+        }
     }
-    if word.eq_ignore_ascii_case(b"logout") {
-        return logout_arguments(text);
+}
+
+/// What follows the word of a command that is allowed.
+fn arguments<'a>(
+    alloc: Global,
+    letters: &[u8],
+    text: &'a [u8],
+    login: bool,
+) -> Result<(Command, &'a [u8]), Stop>
+    ensures { Gives (λ x. x.0) (λ x. x.1.now) result (arguments_of login (word_of letters.now) text.now) }
+{
+    match word_of(letters) {
+        Some(word) if is_allowed(word, login) => arguments_behind(alloc, word, text),
+        _ => Err(stopped(text)),
     }
-    Err(stopped(text))
 }
 
 /// A tag, a command that is allowed, and the rest.
-pub fn tagged(text: &[u8], login: bool) -> Result<(&[u8], Kind, &[u8]), Stop>
-    ensures { Gives (λ x. record { tag = x.0.now; command = command_of x.1 }) (λ x. x.2.now) result (command_at login text.now) }
+pub fn tagged(alloc: Global, text: &[u8], login: bool) -> Result<(&[u8], Command, &[u8]), Stop>
+    ensures { Gives (λ x. record { tag = x.0.now; command = x.1 }) (λ x. x.2.now) result (command_at login text.now) }
 {
     let (tag, rest) = tag(text)?;
     let ((), rest) = byte(rest, b' ')?;
     let (word, rest) = letters(rest)?;
-    let (kind, rest) = arguments(word, rest, login)?;
-    Ok((tag, kind, rest))
+    let (command, rest) = arguments(alloc, word, rest, login)?;
+    Ok((tag, command, rest))
 }

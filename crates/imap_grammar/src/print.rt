@@ -2,18 +2,13 @@
 ghost use Rattle.std.specs.Prelude.{◌≡◌, ◌++◌, OnOk};
 ghost use Rattle.std.specs.List.{flat_map, list_all};
 ghost use Rattle.imap_grammar.specs.Bytes.{is_astring_byte};
-ghost use Rattle.imap_grammar.specs.Printing.{escaped, is_plain, is_visible_text, printed};
+ghost use Rattle.imap_grammar.specs.Printing.{escaped, is_plain, is_printable_text, printed};
 
-use crate::readers::is_tag_byte;
+use crate::astring::is_escaped;
+use crate::readers::is_astring_byte;
 use itoa::Buffer;
+use quota_units::is_printable;
 use std::alloc::AllocError;
-
-/// Whether a name stands plainly with this byte (RFC 9051, section 9: ASTRING-CHAR).
-fn is_astring_byte(byte: u8) -> bool
-    ensures { result ≡ is_astring_byte byte }
-{
-    byte == b'+' || is_tag_byte(byte)
-}
 
 /// Whether all bytes are those that stand plainly, and there is one.
 fn is_plain(bytes: &[u8]) -> bool
@@ -30,17 +25,17 @@ fn may_stand(bytes: &[u8]) -> bool
 }
 
 /// Whether all bytes are printing ASCII or spaces.
-fn is_visible_text(bytes: &[u8]) -> bool
-    ensures { result ≡ is_visible_text bytes.now }
+fn is_printable_text(bytes: &[u8]) -> bool
+    ensures { result ≡ is_printable_text bytes.now }
 {
-    bytes.iter().all(|b| (32..=126).contains(b))
+    bytes.iter().all(|b| is_printable(*b))
 }
 
 /// A byte, with `\` before `"` and `\`.
 fn push_escaped_byte(out: &mut Vec<u8>, byte: u8) -> Result<(), AllocError>
     ensures { OnOk result (out.new.items ≡ out.old.items ++ escaped byte) }
 {
-    if byte == b'"' || byte == b'\\' {
+    if is_escaped(byte) {
         out.push(b'\\')?;
     }
     out.push(byte)?;
@@ -70,7 +65,7 @@ pub fn push_astring(out: &mut Vec<u8>, bytes: &[u8]) -> Result<(), AllocError>
     if is_plain(bytes) {
         return out.extend_from_slice(bytes);
     }
-    if is_visible_text(bytes) {
+    if is_printable_text(bytes) {
         out.push(b'"')?;
         push_escaped(out, bytes)?;
         out.push(b'"')?;

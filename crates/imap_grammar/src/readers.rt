@@ -1,7 +1,10 @@
 // Readers of the parts of a command: each reads what it names at the front of a text, and gives the rest.
 ghost use Rattle.std.specs.Prelude.{◌≡◌};
 ghost use Rattle.imap_grammar.specs.Reading.{Gives, byte, many, line_end};
-ghost use Rattle.imap_grammar.specs.Bytes.{is_tag_byte, is_letter};
+ghost use Rattle.imap_grammar.specs.Bytes.{is_tag_byte, is_astring_byte, is_letter};
+ghost use Rattle.imap_grammar.specs.declared.readers.Stop.TheVariants.{Memory};
+
+use std::alloc::{AllocError, AllocFailed};
 
 /// Why nothing was read.
 #[derive(Clone, Copy, Debug, PartialEq, Eq)]
@@ -10,6 +13,24 @@ pub enum Stop {
     Wrong { left: usize },
     /// The text ends within.
     Short,
+    /// There was no memory.
+    Memory,
+}
+
+impl From<AllocError> for Stop {
+    ghost from_gives = { λ _ e. e ≡ Memory };
+
+    fn from(_: AllocError) -> Self {
+        Stop::Memory
+    }
+}
+
+impl<T: Drop> From<AllocFailed<T>> for Stop {
+    ghost from_gives = { λ _ e. e ≡ Memory };
+
+    fn from(_: AllocFailed<T>) -> Self {
+        Stop::Memory
+    }
 }
 
 /// This byte.
@@ -46,6 +67,13 @@ pub fn is_tag_byte(byte: u8) -> bool
     (33..=126).contains(&byte) && !b"(){%*\"\\+".contains(&byte)
 }
 
+/// Whether a name stands plainly with this byte (RFC 9051, section 9: ASTRING-CHAR).
+pub fn is_astring_byte(byte: u8) -> bool
+    ensures { result ≡ is_astring_byte byte }
+{
+    byte == b'+' || is_tag_byte(byte)
+}
+
 /// The bytes of a tag, up to the first other byte.
 #[tactic(auto, using(crate::proofs::Many::read_none, crate::proofs::Many::read_more, crate::proofs::Many::read_stops, crate::proofs::Many::read_all))]
 pub fn tag_bytes(text: &[u8]) -> Result<(&[u8], &[u8]), Stop>
@@ -53,6 +81,19 @@ pub fn tag_bytes(text: &[u8]) -> Result<(&[u8], &[u8]), Stop>
 {
     for (i, b) in text.iter().enumerate() {
         if !is_tag_byte(*b) {
+            return Ok(text.split_at(i));
+        }
+    }
+    Err(Stop::Short)
+}
+
+/// Bytes that stand plainly, up to the first other byte.
+#[tactic(auto, using(crate::proofs::Many::read_none, crate::proofs::Many::read_more, crate::proofs::Many::read_stops, crate::proofs::Many::read_all))]
+pub fn astring_bytes(text: &[u8]) -> Result<(&[u8], &[u8]), Stop>
+    ensures { Gives (λ x. x.0.now) (λ x. x.1.now) result (many is_astring_byte text.now) }
+{
+    for (i, b) in text.iter().enumerate() {
+        if !is_astring_byte(*b) {
             return Ok(text.split_at(i));
         }
     }

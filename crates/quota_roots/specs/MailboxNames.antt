@@ -2,14 +2,11 @@
 use Rattle.std.specs.Prelude.{ℕ, Bool, false, not, ◌&&◌, ◌||◌, List, [], ◌∷◌, length, codes, nat_eq, nat_le, if◌then◌else◌}
 use Rattle.std.specs.List.{list_all, list_any, starts_with, ends_with}
 use Rattle.std.specs.Str.{str_eq_ignore_ascii_case}
+use Rattle.quota_units.specs.Bytes.{is_printable}
 
 -- the one spelling of a name
 abbrev pub canonical : List ℕ → List ℕ
 canonical name = if str_eq_ignore_ascii_case name (codes "INBOX") then codes "INBOX" else name
-
--- an ASCII byte that prints, the space among them
-abbrev pub is_printable : ℕ → Bool
-is_printable byte = nat_le 0x20 byte && nat_le byte 0x7E
 
 abbrev pub is_mailbox_byte : ℕ → Bool
 is_mailbox_byte byte = is_printable byte && not (list_any (nat_eq byte) (codes "/*%\"\\"))

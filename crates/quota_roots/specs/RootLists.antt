@@ -3,7 +3,8 @@ use Rattle.std.specs.Prelude.{◌≡◌, ◌<◌, ◌≤◌, ℕ, Bool, not, ◌
 use Rattle.std.specs.List.{list_all, list_any, enumerate_from}
 use Rattle.std.specs.Option.{option_map_or}
 use Rattle.quota_roots.specs.declared.root.RootSpec.{RootSpec}
-use Rattle.quota_roots.specs.MailboxNames.{is_mailbox_name, is_printable}
+use Rattle.quota_units.specs.Bytes.{is_printable}
+use Rattle.quota_roots.specs.MailboxNames.{is_mailbox_name}
 
 abbrev pub is_root_name : List ℕ → Bool
 is_root_name name = nat_le (length name) 64 && list_all is_printable name

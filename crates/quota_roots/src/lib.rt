@@ -11,7 +11,7 @@ mod setup;
 mod tests;
 
 pub use lists::{LimitsList, NameList};
-pub use mailbox::{canonical_name, is_mailbox_name};
+pub use mailbox::{canonical_name, canonical_spelling, is_mailbox_name};
 pub use root::RootSpec;
 pub use root_set::RootSet;
 pub use roots::{MAX_ROOTS, Roots, RootsError};

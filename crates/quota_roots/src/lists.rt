@@ -1,7 +1,7 @@
 ghost use Rattle.std.specs.Prelude.{◌≡◌, IfOk};
 
 use quota_units::{Limits, Name, NameError, NoMemory};
-use std::alloc::{AllocError, Global};
+use std::alloc::Global;
 use std::marker::Model;
 
 /// Limits, one after another.
@@ -91,7 +91,7 @@ impl NameList {
     }
 }
 
-fn copy_names(alloc: Global, names: &[Name]) -> Result<Vec<Name>, AllocError>
+fn copy_names(alloc: Global, names: &[Name]) -> Result<Vec<Name>, NoMemory>
     ensures { IfOk result (λ copy. copy.items ≡ names.now) }
 {
     let mut copy = Vec::new(alloc);
@@ -102,12 +102,12 @@ fn copy_names(alloc: Global, names: &[Name]) -> Result<Vec<Name>, AllocError>
 }
 
 /// An equal name.
-pub(crate) fn copy_name(alloc: Global, name: &Name) -> Result<Name, AllocError>
+pub(crate) fn copy_name(alloc: Global, name: &Name) -> Result<Name, NoMemory>
     ensures { IfOk result (λ copy. copy ≡ name.now) }
 {
     match Name::of(alloc, name.as_slice()) {
         Ok(copy) => Ok(copy),
-        Err(NameError::NoMemory) => Err(AllocError),
+        Err(NameError::NoMemory) => Err(NoMemory),
         Err(NameError::TooLong { .. }) => unreachable!(),
     }
 }

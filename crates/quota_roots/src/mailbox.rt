@@ -1,7 +1,7 @@
-ghost use Rattle.std.specs.Prelude.{◌≡◌, ◌<◌, ◌↔◌, ◌⊎◌, length, IfOk, IfErr};
-ghost use Rattle.quota_roots.specs.MailboxNames.{canonical, is_mailbox_byte, is_mailbox_name, is_printable};
+ghost use Rattle.std.specs.Prelude.{◌≡◌, ◌<◌, ◌≤◌, ◌↔◌, ◌⊎◌, length, IfOk, IfErr};
+ghost use Rattle.quota_roots.specs.MailboxNames.{canonical, is_mailbox_byte, is_mailbox_name};
 
-use quota_units::{Name, NameError};
+use quota_units::{Name, NameError, is_printable};
 use std::alloc::Global;
 
 /// The one spelling of a mailbox name: `INBOX` for `INBOX` in any ASCII case (RFC 9051, section 5.1), and else
@@ -15,10 +15,18 @@ pub fn canonical_name(alloc: Global, bytes: &[u8]) -> Result<Name, NameError>
     ensures too_long { (result ≡ Err (NameError.TooLong (length bytes.now))) ↔ (255 < length bytes.now) }
     ensures only { IfErr result (λ e. (e ≡ NameError.TooLong (length bytes.now)) ⊎ (e ≡ NameError.NoMemory)) }
 {
+    Name::of(alloc, canonical_spelling(bytes))
+}
+
+/// The one spelling of a mailbox name of any length, as `canonical_name` has it.
+pub fn canonical_spelling(bytes: &[u8]) -> &[u8]
+    ensures value { result.now ≡ canonical bytes.now }
+    ensures length { (length result.now ≤ 255) ↔ (length bytes.now ≤ 255) }
+{
     if bytes.eq_ignore_ascii_case(b"INBOX") {
-        Name::of(alloc, b"INBOX")
+        b"INBOX"
     } else {
-        Name::of(alloc, bytes)
+        bytes
     }
 }
 
@@ -47,10 +55,4 @@ fn is_mailbox_byte(byte: u8) -> bool
     ensures { result ≡ is_mailbox_byte byte }
 {
     is_printable(byte) && !matches!(byte, b'/' | b'*' | b'%' | b'"' | b'\\')
-}
-
-pub(crate) fn is_printable(byte: u8) -> bool
-    ensures { result ≡ is_printable byte }
-{
-    matches!(byte, 0x20..=0x7E)
 }

@@ -1,14 +1,14 @@
 ghost use Rattle.std.specs.Prelude.{◌≡◌, ◌≤◌, ◌<◌, ◌↔◌, ℕ, length, position, All, Contains, IfSome, IsTrue, IfOk, IsErrOf, vec_len, codes, bytes_eq};
 ghost use Rattle.std.specs.List.{list_all};
 ghost use Rattle.quota_roots.specs.Governing.{governs_at, governing};
-ghost use Rattle.quota_roots.specs.MailboxNames.{is_printable};
+ghost use Rattle.quota_units.specs.Bytes.{is_printable};
 ghost use Rattle.quota_roots.specs.RootLists.{first_bad_name, first_double, has_name, is_prefix_at, is_root_at, is_root_name, name_at, place_of, AreRoots, IsBadName, IsDouble, IsTooMany};
 
-use super::mailbox::{is_mailbox_name, is_printable};
+use super::mailbox::is_mailbox_name;
 use super::root::RootSpec;
 use super::root_set::RootSet;
-use quota_units::{Name, NoMemory};
-use std::alloc::{AllocError, Global};
+use quota_units::{Name, NoMemory, is_printable};
+use std::alloc::Global;
 use std::marker::Model;
 use thiserror::Error;
 
@@ -108,7 +108,7 @@ fn roots_of(specs: &[RootSpec], mailbox: &[u8]) -> RootSet
     roots
 }
 
-fn copy_specs(alloc: Global, specs: &[RootSpec]) -> Result<Vec<RootSpec>, AllocError>
+fn copy_specs(alloc: Global, specs: &[RootSpec]) -> Result<Vec<RootSpec>, NoMemory>
     ensures { IfOk result (λ copy. copy.items ≡ specs.now) }
 {
     let mut copy = Vec::new(alloc);

@@ -1,3 +1,4 @@
+pub mod Bytes
 pub mod Units
 pub mod Limiting
 pub mod Digits

@@ -1,6 +1,7 @@
 //! The quantities of a mail quota: storage units, limits, totals, names, flags and decimal numbers.
 #![tactic(auto)]
 
+mod bytes;
 mod digits;
 mod flags;
 mod limits;
@@ -10,6 +11,7 @@ mod resource;
 mod totals;
 mod units;
 
+pub use bytes::is_printable;
 pub use digits::{number_in, numeral_in};
 pub use flags::Flags;
 pub use limits::{LimitError, Limits, limit_of_count, limit_of_units};

@@ -1,4 +1,4 @@
-ghost use Rattle.std.specs.Prelude.{◌≡◌, ◌<◌, ◌≤◌, ◌↔◌, length, IfOk, IfErr, ◌⊎◌};
+ghost use Rattle.std.specs.Prelude.{◌≡◌, ◌<◌, ◌≤◌, ◌↔◌, length, vec_len, IfOk, IfErr, ◌⊎◌};
 ghost use Rattle.quota_units.specs.declared.name.NameError.TheVariants.{NoMemory};
 
 use std::alloc::{AllocError, Global};
@@ -58,6 +58,23 @@ impl Name {
         Ok(Name {
             bytes: bytes.to_vec(alloc)?,
         })
+    }
+
+    /// The name that this vector holds. No memory is taken.
+    ///
+    /// # Errors
+    ///
+    /// `TooLong` where there are more than 255 bytes, and no other.
+    pub fn from_vec(bytes: Vec<u8>) -> Result<Name, NameError>
+        ensures ok { IfOk result (λ name. name ≡ bytes.items) }
+        ensures too_long { (result ≡ Err (NameError.TooLong (vec_len bytes))) ↔ (255 < vec_len bytes) }
+        ensures only { IfErr result (λ e. e ≡ NameError.TooLong (vec_len bytes)) }
+    {
+        let length = bytes.len();
+        if length > 255 {
+            return Err(NameError::TooLong { length });
+        }
+        Ok(Name { bytes })
     }
 
     /// The name's bytes.

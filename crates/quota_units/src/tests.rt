@@ -35,6 +35,12 @@ fn a_name_has_at_most_255_bytes(rt: HostRuntime) -> Result<(), Fail> {
         Name::of(rt.alloc(), &bytes[..255])?.as_slice(),
         &bytes[..255]
     );
+    let held = Name::from_vec(bytes[..255].to_vec(rt.alloc())?)?;
+    assert_eq!(rt; held.as_slice(), &bytes[..255]);
+    match Name::from_vec(bytes.to_vec(rt.alloc())?) {
+        Ok(_) => assert!(rt; false, "a name of 256 bytes"),
+        Err(fault) => assert_eq!(rt; fault, NameError::TooLong { length: 256 }),
+    }
     match Name::of(rt.alloc(), &bytes) {
         Ok(_) => assert!(rt; false, "a name of 256 bytes"),
         Err(fault) => assert_eq!(rt; fault, NameError::TooLong { length: 256 }),

@@ -1,11 +1,10 @@
 -- The calls of the one owner, one after another.
 use Rattle.std.proofs.Common.{true, false, ◌≡◌, ◌≢◌, ℕ, List, [], ◌∷◌, ◌++◌, refl, sym, ap, ◌∙◌, subst, append_assoc, append-nil, inl, inr}
 use Rattle.account_core.specs.declared.calls.Call.{Call}
-use Rattle.account_core.specs.declared.calls.Call.TheVariants.{Quota}
 use Rattle.account_core.specs.declared.calls.Reply.{Reply}
 use Rattle.account_core.specs.History.{Answer, replied, store, journal_full, Book, Sits, AreNone, Logged, entry_of}
 use Rattle.account_core.proofs.Logging.{logged_append, logged_call, logged_nothing, none_both}
-use Rattle.quotactl.specs.Serving.{Owns, NeverStore, entries_of, LeavesQuota}
+use Rattle.quotactl.specs.Serving.{Owns, NeverStore, entries_of, LeavesCall}
 
 pub replied_never : (given : Reply) → replied given ≢ store
 replied_never given e = cc
@@ -54,11 +53,11 @@ owns_append a b c log more first second = record {
 }
 
 -- the call was made, and its answer could not be told
-pub leaves_called : (account account' : Book) (root : List ℕ) (answer : Answer) → Owns account account' ((Quota root, answer) ∷ []) → LeavesQuota account account' root
-leaves_called account account' root answer owns = ((Quota root, answer) ∷ [], owns, inr (answer, refl))
+pub leaves_called : (account account' : Book) (call : Call) (answer : Answer) → Owns account account' ((call, answer) ∷ []) → LeavesCall account account' call
+leaves_called account account' call answer owns = ((call, answer) ∷ [], owns, inr (answer, refl))
 
-pub leaves_nothing : (account account' : Book) (root : List ℕ) → Owns account account' [] → LeavesQuota account account' root
-leaves_nothing account account' root owns = ([], owns, inl refl)
+pub leaves_nothing : (account account' : Book) (call : Call) → Owns account account' [] → LeavesCall account account' call
+leaves_nothing account account' call owns = ([], owns, inl refl)
 
 pub owns_same : (account : Book) → Owns account account []
 owns_same account = owns_nothing account account refl refl

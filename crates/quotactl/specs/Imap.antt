@@ -1,5 +1,5 @@
 -- IMAP as a protocol: what a whole request is, what is done for it, and what answers it.
-use Rattle.std.specs.Prelude.{ℕ, true, ◌==◌, nat_le, if◌then◌else◌, List, [], length, Option, Some, None}
+use Rattle.std.specs.Prelude.{ℕ, Bool, true, ◌==◌, nat_le, nat_lt, if◌then◌else◌, List, [], ◌∷◌, length, Option, Some, None, Result, Ok, Err}
 use Rattle.std.specs.List.{list_any}
 use Rattle.wire_io.specs.Work.{Work, ask, say}
 use Rattle.wire_io.specs.Protocol.{Protocol}
@@ -7,11 +7,17 @@ use Rattle.wire_io.specs.declared.ends.After.TheVariants.{Open, Closing}
 use Rattle.imap_grammar.specs.Grammar.{Tagged}
 use Rattle.imap_grammar.specs.Commands.{command_in}
 use Rattle.imap_grammar.specs.declared.command.Command.{Command}
-use Rattle.imap_grammar.specs.declared.command.Command.TheVariants.{GetQuota, Logout}
+use Rattle.imap_grammar.specs.declared.command.Command.TheVariants.{GetQuota, GetQuotaRoot, SetQuota, Logout}
+use Rattle.quota_units.specs.Limiting.{LimitNumbers}
+use Rattle.quota_roots.specs.declared.root.RootSpec.{RootSpec}
+use Rattle.quota_roots.specs.MailboxNames.{canonical}
+use Rattle.account_core.specs.Plain.{plain_root}
 use Rattle.account_core.specs.declared.calls.Call.{Call}
-use Rattle.account_core.specs.declared.calls.Call.TheVariants.{Quota}
+use Rattle.account_core.specs.declared.calls.Call.TheVariants.{Quota, SetLimits, Roots}
 use Rattle.account_core.specs.History.{Answer}
-use Rattle.quotactl.specs.Texts.{greeting, quota_text, logout_text, too_long_text, not_built_text}
+use Rattle.quotactl.specs.declared.asked.Refusal.{Refusal}
+use Rattle.quotactl.specs.AskedLimits.{limits_asked, refusal_words}
+use Rattle.quotactl.specs.Texts.{greeting, tagged_line, answer_text, no_root_text, name_too_long_text, logout_text, too_long_text, not_built_text}
 
 pub data Request : Type 0 where
   -- a command
@@ -33,8 +39,34 @@ line_request None = not_built
 abbrev pub whole : List ℕ → Option Request
 whole text = if list_any (λ b. b == 10) text then Some (line_request (command_in true text)) else if nat_le max_text (length text) then Some too_long else None
 
+-- the roots of the session's account
+abbrev pub session_roots : List RootSpec
+session_roots = plain_root ∷ []
+
+-- more bytes than a name has
+abbrev pub is_too_long : List ℕ → Bool
+is_too_long name = nat_lt 255 (length name)
+
+-- this call, and its answer told
+abbrev pub ask_for : List ℕ → List ℕ → Call → Work Call Answer
+ask_for tag mailbox call = ask call (λ answer. say (answer_text session_roots mailbox tag answer) Open)
+
+-- a call on the root of this name; no root has too long a name
+abbrev pub ask_root : List ℕ → List ℕ → Call → Work Call Answer
+ask_root tag root call = if is_too_long root then say (no_root_text tag) Open else ask_for tag [] call
+
+-- the roots of the mailbox of this name
+abbrev pub ask_mailbox : List ℕ → List ℕ → Work Call Answer
+ask_mailbox tag mailbox = if is_too_long mailbox then say (name_too_long_text tag) Open else ask_for tag mailbox (Roots mailbox)
+
+abbrev pub set_root : List ℕ → List ℕ → Result LimitNumbers Refusal → Work Call Answer
+set_root tag root (Ok limits) = ask_root tag root (SetLimits root limits)
+set_root tag root (Err refusal) = say (tagged_line tag (refusal_words refusal)) Open
+
 abbrev pub work_of : List ℕ → Command → Work Call Answer
-work_of tag (GetQuota root) = ask (Quota root) (λ answer. say (quota_text tag answer) Open)
+work_of tag (GetQuota root) = ask_root tag root (Quota root)
+work_of tag (GetQuotaRoot mailbox) = ask_mailbox tag (canonical mailbox)
+work_of tag (SetQuota root limits) = set_root tag root (limits_asked limits)
 work_of tag Logout = say (logout_text tag) Closing
 
 abbrev pub work : Request → Work Call Answer

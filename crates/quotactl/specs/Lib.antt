@@ -1,3 +1,4 @@
+pub mod AskedLimits
 pub mod Texts
 pub mod Imap
 pub mod Serving

@@ -12,11 +12,10 @@ use Rattle.wire_io.specs.Protocol.{Spells}
 use Rattle.wire_io.specs.Session.{Exchange, IsExchange, Ends, IsWorked, Session}
 use Rattle.imap_grammar.specs.declared.command.Command.{Command}
 use Rattle.account_core.specs.declared.calls.Call.{Call}
-use Rattle.account_core.specs.declared.calls.Call.TheVariants.{Quota}
 use Rattle.account_core.specs.declared.calls.Entry.{Entry}
 use Rattle.account_core.specs.History.{Answer, replied, store, journal_full, Book, AreNone, Logged, entry_of}
-use Rattle.quotactl.specs.Texts.{quota_text, greeting}
-use Rattle.quotactl.specs.Imap.{Request, work, work_of, imap}
+use Rattle.quotactl.specs.Texts.{answer_text, greeting}
+use Rattle.quotactl.specs.Imap.{Request, session_roots, work, work_of, imap}
 
 -- the most bytes of a session
 abbrev pub input_limit : ℕ
@@ -66,13 +65,13 @@ pub record Abandoned (account account' : Book) (bytes : List ℕ) : Type 0 where
   pub owned : Owns account account' log
   pub begun : (log ≡ []) ⊎ ((request : Request) × Spells imap tt bytes request × Begins (work request) log)
 
--- the account was asked for a root, and this text answers the command with the tag
-abbrev pub AnswersQuota : Book → Book → List ℕ → List ℕ → List ℕ → Type 0
-AnswersQuota account account' tag root text = (answer : Answer) × (text ≡ quota_text tag answer) × Owns account account' ((Quota root, answer) ∷ [])
+-- the account was asked, and this text answers the command with the tag
+abbrev pub AnswersCall : Book → Book → Call → (mailbox tag text : List ℕ) → Type 0
+AnswersCall account account' call mailbox tag text = (answer : Answer) × (text ≡ answer_text session_roots mailbox tag answer) × Owns account account' ((call, answer) ∷ [])
 
--- the account was asked for a root or was not
-abbrev pub LeavesQuota : Book → Book → List ℕ → Type 0
-LeavesQuota account account' root = (log : List (Call × Answer)) × Owns account account' log × ((log ≡ []) ⊎ ((answer : Answer) × (log ≡ (Quota root, answer) ∷ [])))
+-- the account was asked or was not
+abbrev pub LeavesCall : Book → Book → Call → Type 0
+LeavesCall account account' call = (log : List (Call × Answer)) × Owns account account' log × ((log ≡ []) ⊎ ((answer : Answer) × (log ≡ (call, answer) ∷ [])))
 
 -- the work for a command with this tag was done, and this is its text
 abbrev pub AnswersCommand : Book → Book → List ℕ → Command → List ℕ → After → Type 0

@@ -1,7 +1,10 @@
--- The lines that an IMAP session writes: RFC 9208, on the QUOTA response; the texts after OK, NO, BAD and BYE are this project's own.
+-- The lines that an IMAP session writes: RFC 9208, on the QUOTA and QUOTAROOT responses; the texts after OK, NO, BAD and BYE are this project's own.
 use Rattle.std.specs.Prelude.{ℕ, List, [], ◌++◌, codes, Option, None, Some}
+use Rattle.std.specs.List.{flat_map}
 use Rattle.std.specs.Fmt.{decimal}
 use Rattle.quota_units.specs.Units.{units_of}
+use Rattle.quota_roots.specs.declared.root.RootSpec.{RootSpec}
+use Rattle.quota_roots.specs.RootLists.{name_at}
 use Rattle.imap_grammar.specs.Printing.{printed}
 use Rattle.account_core.specs.declared.calls.RootRow.{RootRow}
 use Rattle.account_core.specs.declared.calls.Reply.TheVariants.{NoRoot, Quota, LimitsSet, Roots}
@@ -37,14 +40,35 @@ abbrev pub quota_line : List ℕ → RootRow → List ℕ
 quota_line name row =
     codes "* QUOTA " ++ (printed name ++ (codes " (" ++ (resources row.octets row.count row.limits.octets row.limits.count ++ (codes ")" ++ line_end))))
 
--- the answer to GETQUOTA, where the one root has the empty name; the last two replies are those of other calls, and it has none of them
-abbrev pub quota_text : List ℕ → Answer → List ℕ
-quota_text tag (replied (Quota row)) = quota_line [] row ++ tagged_line tag (codes "OK GETQUOTA completed")
-quota_text tag (replied NoRoot) = tagged_line tag (codes "NO No such quota root")
-quota_text tag store = tagged_line tag (codes "NO [UNAVAILABLE] Store unavailable")
-quota_text tag journal_full = tagged_line tag (codes "NO [LIMIT] Journal full")
-quota_text tag (replied (LimitsSet row)) = []
-quota_text tag (replied (Roots rows)) = []
+-- the row of a root of these
+abbrev pub root_line : List RootSpec → RootRow → List ℕ
+root_line roots row = quota_line (name_at roots row.root) row
+
+-- a space and the name of a root of these
+abbrev pub root_behind : List RootSpec → RootRow → List ℕ
+root_behind roots row = codes " " ++ printed (name_at roots row.root)
+
+-- the mailbox and the names of the roots that govern it: RFC 9208, on the QUOTAROOT response
+abbrev pub quota_root_line : List RootSpec → List ℕ → List RootRow → List ℕ
+quota_root_line roots mailbox rows = codes "* QUOTAROOT " ++ (printed mailbox ++ (flat_map (root_behind roots) rows ++ line_end))
+
+-- a name that no root has
+abbrev pub no_root_text : List ℕ → List ℕ
+no_root_text tag = tagged_line tag (codes "NO No such quota root")
+
+-- what answers a command by the answer to its call, where the account has these roots; the mailbox is that of GETQUOTAROOT
+abbrev pub answer_text : List RootSpec → List ℕ → List ℕ → Answer → List ℕ
+answer_text roots mailbox tag (replied NoRoot) = no_root_text tag
+answer_text roots mailbox tag (replied (Quota row)) = root_line roots row ++ tagged_line tag (codes "OK GETQUOTA completed")
+answer_text roots mailbox tag (replied (LimitsSet row)) = root_line roots row ++ tagged_line tag (codes "OK SETQUOTA completed")
+answer_text roots mailbox tag (replied (Roots rows)) =
+    quota_root_line roots mailbox rows ++ (flat_map (root_line roots) rows ++ tagged_line tag (codes "OK GETQUOTAROOT completed"))
+answer_text roots mailbox tag store = tagged_line tag (codes "NO [UNAVAILABLE] Store unavailable")
+answer_text roots mailbox tag journal_full = tagged_line tag (codes "NO [LIMIT] Journal full")
+
+-- a mailbox of more than 255 bytes
+abbrev pub name_too_long_text : List ℕ → List ℕ
+name_too_long_text tag = tagged_line tag (codes "NO Name too long")
 
 -- the answer to LOGOUT
 abbrev pub logout_text : List ℕ → List ℕ

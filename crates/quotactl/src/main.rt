@@ -1,6 +1,7 @@
 //! `quotactl`: one session of the mail quota service over standard input and output.
 #![tactic(auto)]
 
+mod asked;
 mod control;
 mod session;
 mod texts;

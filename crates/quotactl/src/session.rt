@@ -6,12 +6,17 @@ ghost use Rattle.wire_io.specs.Causes.{Rose};
 ghost use Rattle.wire_io.specs.Feeds.{source_of, source_name, waiting_of, taken_of, handed_of, limit_of};
 ghost use Rattle.wire_io.specs.Session.{InputEnds};
 ghost use Rattle.wire_io.specs.declared.ends.SessionEnd.{SessionEnd as End};
-ghost use Rattle.quotactl.specs.Serving.{input_limit, end_at, TakesRequest, ServesRequest, IsServed, IsSession, AnswersQuota, LeavesQuota, AnswersCommand, LeavesCommand, Answered, Abandoned};
+ghost use Rattle.quotactl.specs.Texts.{tagged_line};
+ghost use Rattle.quotactl.specs.Serving.{input_limit, end_at, TakesRequest, ServesRequest, IsServed, IsSession, AnswersCall, LeavesCall, AnswersCommand, LeavesCommand, Answered, Abandoned};
 
-use crate::texts::{GREETING, NOT_BUILT, TOO_LONG, push_logout, push_quota, push_tagged};
+use crate::asked::limits_of;
+use crate::texts::{
+    GREETING, NAME_TOO_LONG, NO_ROOT, NOT_BUILT, TOO_LONG, push_answer, push_logout, push_tagged,
+};
 use account_core::{Call, PlainAccount, StepError};
-use imap_grammar::{Command, CommandFault, read_tagged};
-use quota_units::{Name, NoMemory};
+use imap_grammar::{AskedLimit, Astring, Command, CommandFault, read_tagged};
+use quota_roots::canonical_spelling;
+use quota_units::{Name, NameError, NoMemory};
 use std::alloc::Global;
 use wire_io::{After, Failed, Feed, FeedEnd, LineEnd, SessionEnd, Sink, Source, send};
 
@@ -21,20 +26,21 @@ const MAX_TEXT: usize = 16384;
 /// The most bytes of a session.
 const INPUT_LIMIT: u64 = 1073741824;
 
-/// Asks the account for a root, and appends what answers the command with this tag.
-fn answer_quota(
+/// Asks the account, and appends what answers the command with this tag. The mailbox is that of GETQUOTAROOT.
+fn answer_call(
     alloc: Global,
     account: &mut PlainAccount,
+    call: Call,
+    mailbox: &[u8],
     tag: &[u8],
-    root: Name,
     text: &mut Vec<u8>,
 ) -> Result<(), NoMemory>
     requires { text.old.items ≡ [] }
-    ensures ok { OnOk result (AnswersQuota account.old account.new tag.now root text.new.items) }
-    ensures err { OnErr result (LeavesQuota account.old account.new root) }
+    ensures ok { OnOk result (AnswersCall account.old account.new call mailbox.now tag.now text.new.items) }
+    ensures err { OnErr result (LeavesCall account.old account.new call) }
 {
-    match account.serve(alloc, Call::Quota { root }) {
-        Ok(reply) => match push_quota(text, tag, &reply) {
+    match account.serve(alloc, call) {
+        Ok(reply) => match push_answer(text, account, mailbox, tag, &reply) {
             Ok(()) => Ok(()),
             Err(_) => Err(NoMemory),
         },
@@ -48,6 +54,91 @@ fn answer_quota(
             Err(_) => Err(NoMemory),
         },
         Err(StepError::NoMemory) => Err(NoMemory),
+    }
+}
+
+/// Says these words, with no call made.
+fn answer_words(tag: &[u8], words: &[u8], text: &mut Vec<u8>) -> Result<(), NoMemory>
+    requires { text.old.items ≡ [] }
+    ensures { OnOk result (text.new.items ≡ tagged_line tag.now words.now) }
+{
+    match push_tagged(text, tag, words) {
+        Ok(()) => Ok(()),
+        Err(_) => Err(NoMemory),
+    }
+}
+
+/// Makes what answers GETQUOTA.
+fn answer_get_quota(
+    alloc: Global,
+    account: &mut PlainAccount,
+    root: Astring,
+    tag: &[u8],
+    text: &mut Vec<u8>,
+) -> Result<(), NoMemory>
+    requires { text.old.items ≡ [] }
+    ensures ok { OnOk result (AnswersCommand account.old account.new tag.now (Command.GetQuota root) text.new.items After.Open) }
+    ensures err { OnErr result (LeavesCommand account.old account.new tag.now (Command.GetQuota root)) }
+{
+    match root.into_name() {
+        Ok(root) => answer_call(alloc, account, Call::Quota { root }, b"", tag, text),
+        Err(_) => answer_words(tag, NO_ROOT, text),
+    }
+}
+
+/// Makes what answers GETQUOTAROOT.
+fn answer_get_quota_root(
+    alloc: Global,
+    account: &mut PlainAccount,
+    mailbox: &[u8],
+    tag: &[u8],
+    text: &mut Vec<u8>,
+) -> Result<(), NoMemory>
+    requires { text.old.items ≡ [] }
+    ensures ok { OnOk result (AnswersCommand account.old account.new tag.now (Command.GetQuotaRoot mailbox.now) text.new.items After.Open) }
+    ensures err { OnErr result (LeavesCommand account.old account.new tag.now (Command.GetQuotaRoot mailbox.now)) }
+{
+    let mailbox = canonical_spelling(mailbox);
+    match Name::of(alloc, mailbox) {
+        Ok(name) => answer_call(
+            alloc,
+            account,
+            Call::Roots { mailbox: name },
+            mailbox,
+            tag,
+            text,
+        ),
+        Err(NameError::TooLong { .. }) => answer_words(tag, NAME_TOO_LONG, text),
+        Err(NameError::NoMemory) => Err(NoMemory),
+    }
+}
+
+/// Makes what answers SETQUOTA.
+fn answer_set_quota(
+    alloc: Global,
+    account: &mut PlainAccount,
+    root: Astring,
+    limits: &[AskedLimit],
+    tag: &[u8],
+    text: &mut Vec<u8>,
+) -> Result<(), NoMemory>
+    requires { text.old.items ≡ [] }
+    ensures ok { OnOk result (AnswersCommand account.old account.new tag.now (Command.SetQuota root limits.now) text.new.items After.Open) }
+    ensures err { OnErr result (LeavesCommand account.old account.new tag.now (Command.SetQuota root limits.now)) }
+{
+    match limits_of(limits) {
+        Err(refusal) => answer_words(tag, refusal.words(), text),
+        Ok(limits) => match root.into_name() {
+            Ok(root) => answer_call(
+                alloc,
+                account,
+                Call::SetLimits { root, limits },
+                b"",
+                tag,
+                text,
+            ),
+            Err(_) => answer_words(tag, NO_ROOT, text),
+        },
     }
 }
 
@@ -96,10 +187,22 @@ fn answer_command(
     ensures err { OnErr result (LeavesCommand account.old account.new tag.now command) }
 {
     match command {
-        Command::GetQuota { root } => match answer_quota(alloc, account, tag, root, text) {
+        Command::GetQuota { root } => match answer_get_quota(alloc, account, root, tag, text) {
             Ok(()) => Ok(After::Open),
             Err(NoMemory) => Err(NoMemory),
         },
+        Command::GetQuotaRoot { mailbox } => {
+            match answer_get_quota_root(alloc, account, mailbox.as_slice(), tag, text) {
+                Ok(()) => Ok(After::Open),
+                Err(NoMemory) => Err(NoMemory),
+            }
+        }
+        Command::SetQuota { root, limits } => {
+            match answer_set_quota(alloc, account, root, limits.as_slice(), tag, text) {
+                Ok(()) => Ok(After::Open),
+                Err(NoMemory) => Err(NoMemory),
+            }
+        }
         Command::Logout => match push_logout(text, tag) {
             Ok(()) => Ok(After::Closing),
             Err(_) => Err(NoMemory),

@@ -1,10 +1,12 @@
 // The texts that answer requests, each appended whole.
 ghost use Rattle.std.specs.Prelude.{◌≡◌, ◌++◌, OnOk};
 ghost use Rattle.std.specs.Fmt.{decimal};
-ghost use Rattle.quotactl.specs.Texts.{resource, storage, message, resources, quota_line, tagged_line, quota_text, logout_text};
+ghost use Rattle.std.specs.List.{flat_map};
+ghost use Rattle.quotactl.specs.Imap.{session_roots};
+ghost use Rattle.quotactl.specs.Texts.{resource, storage, message, resources, quota_line, root_line, root_behind, quota_root_line, tagged_line, answer_text, logout_text};
 ghost use Rattle.account_core.specs.History.{replied, journal_full, store};
 
-use account_core::{Reply, RootRow, StepError};
+use account_core::{PlainAccount, Reply, RootRow};
 use imap_grammar::push_astring;
 use itoa::Buffer;
 use quota_units::units_up;
@@ -18,6 +20,12 @@ pub const TOO_LONG: &[u8] = b"* BYE Command too long\r\n";
 
 /// What answers a line that is no command that is built.
 pub const NOT_BUILT: &[u8] = b"* BAD Not built yet\r\n";
+
+/// What answers a command that names no root.
+pub const NO_ROOT: &[u8] = b"NO No such quota root";
+
+/// What answers GETQUOTAROOT of a mailbox of more than 255 bytes.
+pub const NAME_TOO_LONG: &[u8] = b"NO Name too long";
 
 fn push_number(out: &mut Vec<u8>, number: u64) -> Result<(), AllocError>
     ensures { OnOk result (out.new.items ≡ out.old.items ++ decimal number) }
@@ -85,17 +93,99 @@ fn push_quota_line(out: &mut Vec<u8>, name: &[u8], row: &RootRow) -> Result<(), 
     out.extend_from_slice(b")\r\n")
 }
 
-/// What answers GETQUOTA, where the machine replied.
-pub fn push_quota(out: &mut Vec<u8>, tag: &[u8], reply: &Reply) -> Result<(), AllocError>
-    ensures { OnOk result (out.new.items ≡ out.old.items ++ quota_text tag.now (replied reply.now)) }
+/// The untagged line of a root of the account.
+fn push_root_line(
+    out: &mut Vec<u8>,
+    account: &PlainAccount,
+    row: &RootRow,
+) -> Result<(), AllocError>
+    ensures { OnOk result (out.new.items ≡ out.old.items ++ root_line session_roots row.now) }
+{
+    push_quota_line(out, account.root_name(row.root), row)
+}
+
+/// A space and the name of a root of the account.
+fn push_root_behind(
+    out: &mut Vec<u8>,
+    account: &PlainAccount,
+    row: &RootRow,
+) -> Result<(), AllocError>
+    ensures { OnOk result (out.new.items ≡ out.old.items ++ root_behind session_roots row.now) }
+{
+    out.extend_from_slice(b" ")?;
+    push_astring(out, account.root_name(row.root))
+}
+
+/// The untagged lines of these roots.
+#[tactic(auto, using(crate::proofs::Rows::rows_none, crate::proofs::Rows::rows_more, crate::proofs::Rows::rows_all))]
+fn push_root_lines(
+    out: &mut Vec<u8>,
+    account: &PlainAccount,
+    rows: &[RootRow],
+) -> Result<(), AllocError>
+    ensures { OnOk result (out.new.items ≡ out.old.items ++ flat_map (root_line session_roots) rows.now) }
+{
+    for (i, row) in rows.iter().enumerate() {
+        push_root_line(out, account, row)?;
+    }
+    Ok(())
+}
+
+/// The names of these roots, each behind a space.
+#[tactic(auto, using(crate::proofs::Rows::rows_none, crate::proofs::Rows::rows_more, crate::proofs::Rows::rows_all))]
+fn push_root_names(
+    out: &mut Vec<u8>,
+    account: &PlainAccount,
+    rows: &[RootRow],
+) -> Result<(), AllocError>
+    ensures { OnOk result (out.new.items ≡ out.old.items ++ flat_map (root_behind session_roots) rows.now) }
+{
+    for (i, row) in rows.iter().enumerate() {
+        push_root_behind(out, account, row)?;
+    }
+    Ok(())
+}
+
+/// The untagged line of a mailbox and the roots that govern it.
+fn push_quota_root_line(
+    out: &mut Vec<u8>,
+    account: &PlainAccount,
+    mailbox: &[u8],
+    rows: &[RootRow],
+) -> Result<(), AllocError>
+    ensures { OnOk result (out.new.items ≡ out.old.items ++ quota_root_line session_roots mailbox.now rows.now) }
+{
+    out.extend_from_slice(b"* QUOTAROOT ")?;
+    push_astring(out, mailbox)?;
+    push_root_names(out, account, rows)?;
+    out.extend_from_slice(b"\r\n")
+}
+
+/// What answers a command, where the machine replied to its call. The mailbox is that of GETQUOTAROOT.
+pub fn push_answer(
+    out: &mut Vec<u8>,
+    account: &PlainAccount,
+    mailbox: &[u8],
+    tag: &[u8],
+    reply: &Reply,
+) -> Result<(), AllocError>
+    ensures { OnOk result (out.new.items ≡ out.old.items ++ answer_text session_roots mailbox.now tag.now (replied reply.now)) }
 {
     match reply {
-        Reply::NoRoot => push_tagged(out, tag, b"NO No such quota root"),
+        Reply::NoRoot => push_tagged(out, tag, NO_ROOT),
         Reply::Quota(row) => {
-            push_quota_line(out, b"", row)?;
+            push_root_line(out, account, row)?;
             push_tagged(out, tag, b"OK GETQUOTA completed")
         }
-        Reply::LimitsSet(_) | Reply::Roots(_) => Ok(()),
+        Reply::LimitsSet(row) => {
+            push_root_line(out, account, row)?;
+            push_tagged(out, tag, b"OK SETQUOTA completed")
+        }
+        Reply::Roots(rows) => {
+            push_quota_root_line(out, account, mailbox, rows.as_slice())?;
+            push_root_lines(out, account, rows.as_slice())?;
+            push_tagged(out, tag, b"OK GETQUOTAROOT completed")
+        }
     }
 }
 

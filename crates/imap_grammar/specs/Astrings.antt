@@ -1,0 +1,22 @@
+-- The reading of a name: RFC 9051, section 9, astring.
+use Rattle.std.specs.Prelude.{ℕ, Bool, true, false, ◌==◌, if◌then◌else◌, List, [], ◌∷◌}
+use Rattle.imap_grammar.specs.Bytes.{is_astring_byte, is_escaped, is_quotable}
+use Rattle.imap_grammar.specs.Reading.{Reader, got, wrong, short, with_first, many}
+
+-- one or more bytes that stand plainly, up to one that does not
+abbrev pub plain : Reader (List ℕ)
+plain [] = short
+plain (b ∷ bs) = if is_astring_byte b then many is_astring_byte (b ∷ bs) else wrong (b ∷ bs)
+
+-- what stands up to the closing quote; `behind` says that a \ stands before
+abbrev pub inside : (behind : Bool) → Reader (List ℕ)
+inside behind [] = short
+inside true (b ∷ bs) = if is_escaped b then with_first b (inside false bs) else wrong (b ∷ bs)
+inside false (b ∷ bs) =
+    if b == 34 then got [] bs
+    else if b == 92 then inside true bs
+    else if is_quotable b then with_first b (inside false bs) else wrong (b ∷ bs)
+
+abbrev pub astring : Reader (List ℕ)
+astring [] = short
+astring (b ∷ bs) = if b == 34 then inside false bs else plain (b ∷ bs)
