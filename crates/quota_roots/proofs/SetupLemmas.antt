@@ -1,12 +1,8 @@
 -- Names that differ.
-use Rattle.std.proofs.Common.{◌≡◌, ℕ, ◌+◌, ◌<◌, true, not, ◌&&◌, List, [], ◌∷◌, length, drop, get_or, refl, ◌≤◌, bytes_eq, eqb, eq-eqb, arith}
+use Rattle.std.proofs.Common.{◌≡◌, ℕ, ◌+◌, ◌<◌, true, not, ◌&&◌, List, length, drop, get_or, ◌≤◌, bytes_eq, arith}
 use Rattle.std.specs.List.{list_any}
 use Rattle.std.proofs.lemmas.List.{at_drop_more, at_drop_all}
 use Rattle.quota_roots.specs.Setups.{are_different}
-
-pub same_bytes : (bytes : List ℕ) → true ≡ bytes_eq bytes bytes
-same_bytes [] = refl
-same_bytes (byte ∷ bytes) = let e : eqb byte byte ≡ true = eq-eqb byte byte refl in rw e (same_bytes bytes)
 
 pub different_more : (names : List (List ℕ)) (at : ℕ) (d : List ℕ) → at < length names
     → are_different (drop at names) ≡ (not (list_any (λ other. bytes_eq other (get_or names at d)) (drop (at + 1) names)) && are_different (drop (at + 1) names))

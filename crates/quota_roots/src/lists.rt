@@ -1,7 +1,7 @@
 ghost use Rattle.std.specs.Prelude.{◌≡◌, IfOk};
 
-use quota_units::{Limits, Name, NoMemory};
-use std::alloc::{AllocError, Global};
+use quota_units::{Limits, Name, NameError, NoMemory};
+use std::alloc::Global;
 use std::marker::Model;
 
 /// Limits, one after another.
@@ -91,7 +91,7 @@ impl NameList {
     }
 }
 
-fn copy_names(alloc: Global, names: &[Name]) -> Result<Vec<Name>, AllocError>
+fn copy_names(alloc: Global, names: &[Name]) -> Result<Vec<Name>, NoMemory>
     ensures { IfOk result (λ copy. copy.items ≡ names.now) }
 {
     let mut copy = Vec::new(alloc);
@@ -101,9 +101,13 @@ fn copy_names(alloc: Global, names: &[Name]) -> Result<Vec<Name>, AllocError>
     Ok(copy)
 }
 
-/// An equal name. A name is never too long for one, so that only want of memory is left.
-pub(crate) fn copy_name(alloc: Global, name: &Name) -> Result<Name, AllocError>
+/// An equal name.
+pub(crate) fn copy_name(alloc: Global, name: &Name) -> Result<Name, NoMemory>
     ensures { IfOk result (λ copy. copy ≡ name.now) }
 {
-    Name::of(alloc, name.as_slice()).map_err(|_| AllocError)
+    match Name::of(alloc, name.as_slice()) {
+        Ok(copy) => Ok(copy),
+        Err(NameError::NoMemory) => Err(NoMemory),
+        Err(NameError::TooLong { .. }) => unreachable!(),
+    }
 }

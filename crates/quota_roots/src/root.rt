@@ -1,8 +1,8 @@
 ghost use Rattle.std.specs.Prelude.{◌≡◌, IfOk};
 
 use super::lists::copy_name;
-use quota_units::Name;
-use std::alloc::{AllocError, Global};
+use quota_units::{Name, NoMemory};
+use std::alloc::Global;
 
 /// A quota root: its name, and the prefix of the mailboxes that it governs.
 ///
@@ -28,7 +28,7 @@ impl RootSpec {
     }
 
     /// An equal root.
-    pub(crate) fn copy(&self, alloc: Global) -> Result<RootSpec, AllocError>
+    pub(crate) fn copy(&self, alloc: Global) -> Result<RootSpec, NoMemory>
         ensures { IfOk result (λ copy. copy ≡ self.now) }
     {
         let name = copy_name(alloc, &self.name)?;

@@ -8,7 +8,7 @@ use super::mailbox::is_mailbox_name;
 use super::root::RootSpec;
 use super::root_set::RootSet;
 use quota_units::{Name, NoMemory, is_printable};
-use std::alloc::{AllocError, Global};
+use std::alloc::Global;
 use std::marker::Model;
 use thiserror::Error;
 
@@ -108,7 +108,7 @@ fn roots_of(specs: &[RootSpec], mailbox: &[u8]) -> RootSet
     roots
 }
 
-fn copy_specs(alloc: Global, specs: &[RootSpec]) -> Result<Vec<RootSpec>, AllocError>
+fn copy_specs(alloc: Global, specs: &[RootSpec]) -> Result<Vec<RootSpec>, NoMemory>
     ensures { IfOk result (λ copy. copy.items ≡ specs.now) }
 {
     let mut copy = Vec::new(alloc);

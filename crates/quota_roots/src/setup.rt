@@ -1,10 +1,9 @@
 ghost use Rattle.std.specs.Prelude.{◌≡◌, ◌↔◌, Some, bytes_eq, codes, slice_get, IsTrue, IfOk};
 ghost use Rattle.std.specs.List.{list_all, list_any};
-ghost use Rattle.quota_roots.specs.MailboxNames.{canonical};
 ghost use Rattle.quota_roots.specs.Setups.{IsSound, AreMailboxes, are_different, is_mailbox};
 
 use crate::lists::{LimitsList, NameList};
-use crate::mailbox::is_mailbox_name;
+use crate::mailbox::{canonical_spelling, is_mailbox_name};
 use crate::roots::Roots;
 use quota_units::{Name, NoMemory};
 use std::alloc::Global;
@@ -86,18 +85,7 @@ fn begins_with_inbox(mailboxes: &[Name]) -> bool
 fn is_mailbox(name: &[u8]) -> bool
     ensures { result ≡ is_mailbox name.now }
 {
-    is_mailbox_name(name) && is_canonical(name)
-}
-
-#[tactic(auto, using(crate::proofs::SetupLemmas::same_bytes))]
-fn is_canonical(name: &[u8]) -> bool
-    ensures { result ≡ bytes_eq (canonical name.now) name.now }
-{
-    if name.eq_ignore_ascii_case(b"INBOX") {
-        b"INBOX".as_slice() == name
-    } else {
-        true
-    }
+    is_mailbox_name(name) && canonical_spelling(name) == name
 }
 
 /// Whether no name stands twice.
