@@ -1,10 +1,12 @@
 //! The account machine: what an account is, what its calls are answered, and the history that its entries make.
 #![tactic(auto)]
 
+mod booked;
 mod calls;
 mod plain;
 mod rows;
 
+pub use booked::Booked;
 pub use calls::{Call, Entry, Reply, RootRow, StepError};
 pub use plain::PlainAccount;
 pub use rows::RootRows;
