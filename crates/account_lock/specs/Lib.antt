@@ -1,0 +1,5 @@
+pub mod Known
+pub mod Views
+pub mod Order
+pub mod Steps
+pub mod Closing
