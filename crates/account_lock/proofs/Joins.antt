@@ -179,12 +179,12 @@ module _ {A : Type 0} (origin : A → Origin) (history : A → List Entry) where
       let idle : (st : Stage) → v.stage ≡ st → st ≡ resting = λ st e. sym e ∙ rest in
       let between : List View = set s.views id w in
       let fits : (j : ℕ) (u : View) → At (between ++ x ∷ []) j u → Fits k.start k.log limit k.made true u u.stage =
-          each_end (λ u. Fits k.start k.log limit k.made true u u.stage) between x (knows_newcomer k.start k.log limit k.made k.pending v first none_pends k.callers kn)
-          (each_set (λ u. Fits k.start k.log limit k.made true u u.stage) s.views id w
-              (subst (λ (t : Stage). Fits k.start k.log limit k.made true w t) (sym rest) (knows_making k.start k.log limit k.made k.pending v first none_pends kn))
-              (λ j u ne a. fits_made k.start k.log limit k.made k.pending u u.stage k.made true (omega arith)
-                  (λ l e. (k.apart id j v u at a (λ y. ne (sym y))).0 live l (first ∙ sym e))
-                  (k.fits j u a))) in record {
+      each_end (λ u. Fits k.start k.log limit k.made true u u.stage) between x (knows_newcomer k.start k.log limit k.made k.pending v first none_pends k.callers kn)
+      (each_set (λ u. Fits k.start k.log limit k.made true u u.stage) s.views id w
+      (subst (λ (t : Stage). Fits k.start k.log limit k.made true w t) (sym rest) (knows_making k.start k.log limit k.made k.pending v first none_pends kn))
+      (λ j u ne a. fits_made k.start k.log limit k.made k.pending u u.stage k.made true (omega arith)
+      (λ l e. (k.apart id j v u at a (λ y. ne (sym y))).0 live l (first ∙ sym e))
+      (k.fits j u a))) in record {
         drawn = k.drawn;
         served = k.served;
         log = k.log;
@@ -221,8 +221,8 @@ module _ {A : Type 0} (origin : A → Origin) (history : A → List Entry) where
       dite (ℕ_discrete j other)
       (λ e. (id, both, here, (live, longer_right v.seen w.seen k.log begins (ap (λ (x : View). x.seen) (sym (same_view s.views j other u w e found.2 at')) ∙ found.3.1))))
       (λ n. dite (ℕ_discrete j id)
-          (λ e. (id, both, here, (live, longer_left v.seen w.seen k.log begins' (ap (λ (x : View). x.seen) (sym (same_view s.views j id u v e found.2 at)) ∙ found.3.1))))
-          (λ n'. (j, u, at_there between other j nobody u n (at_there s.views id j both u n' found.2), found.3)))
+      (λ e. (id, both, here, (live, longer_left v.seen w.seen k.log begins' (ap (λ (x : View). x.seen) (sym (same_view s.views j id u v e found.2 at)) ∙ found.3.1))))
+      (λ n'. (j, u, at_there between other j nobody u n (at_there s.views id j both u n' found.2), found.3)))
 
   -- a join, of two views without a ticket
   pub joins : (limit id other : ℕ) (v w : View) → v.stage ≡ resting → w.stage ≡ resting → w.number ≢ 0 → Joins (Rule limit) id v other w (joined v w) nobody
@@ -252,11 +252,11 @@ module _ {A : Type 0} (origin : A → Origin) (history : A → List Entry) where
             (home_set origin history s.homes s.views k.start k.log id v both at not_serving not_serving k.home);
         fits = each_set (λ u. Fits k.start k.log limit k.made k.pending u u.stage) between other nobody (refl, refl)
             (λ j u _ a. each_set (λ u. Fits k.start k.log limit k.made k.pending u u.stage) s.views id both
-                (subst (λ (t : Stage). Fits k.start k.log limit k.made k.pending both t) (sym rest) (knows_joined k.start k.log limit k.made k.pending v w kn kn'))
-                (λ i x _ b. k.fits i x b)
-                j
-                u
-                a);
+            (subst (λ (t : Stage). Fits k.start k.log limit k.made k.pending both t) (sym rest) (knows_joined k.start k.log limit k.made k.pending v w kn kn'))
+            (λ i x _ b. k.fits i x b)
+            j
+            u
+            a);
         longest = still_longest limit s k id other v w at at' ne live kn.seen kn'.seen;
         apart = pairs_set Apart turned between other nobody (pairs_set Apart turned s.views id both k.apart (λ j u n a. k.apart id j v u at a (λ e. n (sym e))))
             (λ j u _ a. ((λ l _. let z : false ≡ true = l in absurd cc), λ o _. let z : 0 ≡ 1 = o in absurd (omega arith)));
@@ -268,10 +268,22 @@ module _ {A : Type 0} (origin : A → Origin) (history : A → List Entry) where
         narrow = k.narrow;
       }
 
+  left_by : (limit : ℕ) (s : St) (k : Rule limit s) (v : View) (x : A) → v.held ≡ v.made → origin x ≡ k.start → history x ≡ k.log → k.made + more k.pending ≡ v.made
+      → Knows k.start k.log limit k.made k.pending v → length k.log ≡ v.own → Leaves origin history v x
+  left_by limit s k v x held begun whole made kn own = record {
+    held = held;
+    begun = begun ∙ sym kn.origin;
+    seen = subst (Begins v.seen) (sym whole) kn.seen;
+    olds = subst (EachBegins v.olds) (sym whole) kn.olds;
+    callers = subst (CallersBelow v.made) (sym whole) (subst (λ (n : ℕ). CallersBelow n k.log) made k.callers);
+    own = ap length whole ∙ own;
+    mine = ap (calls_by v.number) whole ∙ kn.mine;
+  }
+
   -- the lock is closed by the first view, which stands for all passes
-  pub closes : (limit id : ℕ) (v : View) (words : List ℕ) (slots : List (Option A)) → v.stage ≡ resting → v.number ≡ 0 → v.pending ≡ false → v.made ≤ v.held
-      → Final (Seen (Rule limit) id v) words slots → Leaves origin history v slots
-  closes limit id v words slots rest first pends all (s, (k, at), _, _, back) =
+  pub closes : (limit id : ℕ) (v : View) (words : List ℕ) (slots : List (Option A)) (slot : Option A) → v.stage ≡ resting → v.number ≡ 0 → v.pending ≡ false → v.made ≤ v.held
+      → Final (Seen (Rule limit) id v) words slots → get_elem? slots 0 ≡ some slot → (x : A) × (slot ≡ Some x) × Leaves origin history v x
+  closes limit id v words slots slot rest first pends all (s, (k, at), _, _, back) taken =
       let kn = knows_at origin history limit s k id v at (ap is_live rest) in
       let is = kn.first first in
       let made : v.made ≡ k.made = is.0 in
@@ -280,18 +292,11 @@ module _ {A : Type 0} (origin : A → Origin) (history : A → List Entry) where
       let part = total_part held_of s.views id v at in
       let none_held : (j : ℕ) (u : View) → j ≢ id → At s.views j u → u.held ≡ 0 = λ j u ne a. let sum = total_parts held_of s.views id j v u at a (λ e. ne (sym e)) in omega arith in
       let home = at_home origin history limit s k (λ j u a e. dite (ℕ_discrete j id)
-          (λ same. let n : resting ≡ serving = sym rest ∙ (ap (λ (x : View). x.stage) (sym (same_view s.views j id u v same a at)) ∙ e) in absurd cc)
-          (λ ne. let held = (knows_at origin history limit s k j u a (ap is_live e)).part in let none_of = none_held j u ne a in absurd (omega arith))) in
+      (λ same. let n : resting ≡ serving = sym rest ∙ (ap (λ (x : View). x.stage) (sym (same_view s.views j id u v same a at)) ∙ e) in absurd cc)
+      (λ ne. let held = (knows_at origin history limit s k j u a (ap is_live e)).part in let none_of = none_held j u ne a in absurd (omega arith))) in
       let own = total_alone own_of s.views id v at (λ j u ne a. no_own k.start k.log limit k.made k.pending u u.stage (none_held j u ne a) (k.fits j u a)) in
-      let whole : history home.0 ≡ k.log = home.3 in
-      (
-        home.0,
-        back 0 (Some home.0) (ap (λ (hs : List (maybe.Option (Option A))). get_elem? hs 0) home.1),
-        omega arith,
-        home.2 ∙ sym kn.origin,
-        subst (Begins v.seen) (sym whole) kn.seen,
-        subst (EachBegins v.olds) (sym whole) kn.olds,
-        subst (CallersBelow v.made) (sym whole) (subst (λ (n : ℕ). CallersBelow n k.log) (let e : k.made + more k.pending ≡ v.made = omega arith in e) k.callers),
-        ap length whole ∙ (sym k.entries ∙ own),
-        ap (calls_by v.number) whole ∙ kn.mine,
-      )
+      let there = back 0 (Some home.0) (ap (λ (hs : List (maybe.Option (Option A))). get_elem? hs 0) home.1) in
+      (home.0, some-injective slot (Some home.0) (sym taken ∙ there), left_by limit s k v home.0 (omega arith) home.2 home.3 (omega arith) kn (sym k.entries ∙ own))
+
+  pub value_left : (v : View) (slot : Option A) (y : A) → slot ≡ Some y → ((x : A) × (slot ≡ Some x) × Leaves origin history v x) → Leaves origin history v y
+  value_left v slot y is (x, is', left) = let same : x ≡ y = cc in subst (λ (z : A). Leaves origin history v z) same left

@@ -7,7 +7,7 @@ use mathlib.Core.Option.{some, none}
 use mathlib.Core.Logic.{dite}
 use native.Mathlib.Decide.{ℕ_discrete, dec_le}
 use lib.ListN.{get_elem?}
-use Rattle.atomic_table.specs.Table.{State, Me, Step, Act, Valid, carried_after, keeps, takes, gives, stepped, Allows}
+use Rattle.atomic_table.specs.Table.{State, Me, Step, step, Act, Valid, carried_after, keeps, takes, gives, stepped, Allows}
 use Rattle.atomic_table.proofs.Lists.{set_again, one_turn}
 use Rattle.account_core.specs.declared.calls.Entry.{Entry}
 use Rattle.account_core.specs.Histories.{Origin, Begins, EachBegins, calls_by, CallersBelow}
@@ -225,15 +225,18 @@ module _ {A : Type 0} (origin : A → Origin) (history : A → List Entry) where
   unmoved limit s k id v at words' same =
       subst (λ (z : List ℕ × List View). Rule limit record { words = z.0; homes = s.homes; views = z.1 }) (λ i. (sym same i, sym (set_again s.views id v at) i)) k
 
+  -- no kind of step tells of its operands
+  abbrev any : Step (Option A)
+  any = step 0 0 0 0 none
+
   -- a draw, of a view without a ticket
-  pub draws : (limit slots id : ℕ) (me : Me (Option A) View) (st : Step (Option A)) → me.0.stage ≡ resting → Allows (Rule limit) slots id me 0 (λ n. (n + 1) % 2 ^ 64) (drew origin history st me)
-  draws limit slots id me st rest s k wide at _ =
+  pub draws : (limit slots id : ℕ) (me : Me (Option A) View) → me.0.stage ≡ resting → Allows (Rule limit) slots id me 0 (λ n. (n + 1) % 2 ^ 64) (drew origin history any me)
+  draws limit slots id me rest s k wide at _ =
       let v : View = me.0 in
       let w : View = with_ticket v k.drawn in
       let live : is_live v.stage ≡ true = ap is_live rest in
       let in_all = k.tickets in
-      let no_out : out v.stage ≡ 0 = ap out rest in
-      (
+      let no_out : out v.stage ≡ 0 = ap out rest in (
         w,
         keeps,
         tt,
@@ -268,17 +271,16 @@ module _ {A : Type 0} (origin : A → Origin) (history : A → List Entry) where
       × then (slice_index s.words i) (w, carried_after me.1 a)
 
   -- a look, where the ticket is the one that is served, and the value is at home
-  turn_begins : (limit id : ℕ) (me : Me (Option A) View) (st : Step (Option A)) (s : St) (k : Rule limit s) (x : A) → At s.views id me.0 → me.0.stage ≡ waiting → slice_index s.words 1 ≡ me.0.ticket % 2 ^ 64
-      → k.served ≡ me.0.ticket → s.homes ≡ some (Some x) ∷ [] → origin x ≡ k.start → history x ≡ k.log → Tells limit id 1 me (λ n. n) (looked origin history st me) s
-  turn_begins limit id me st s k x at waits hit mine home begun whole =
+  turn_begins : (limit id : ℕ) (me : Me (Option A) View) (s : St) (k : Rule limit s) (x : A) → At s.views id me.0 → me.0.stage ≡ waiting → slice_index s.words 1 ≡ me.0.ticket % 2 ^ 64
+      → k.served ≡ me.0.ticket → s.homes ≡ some (Some x) ∷ [] → origin x ≡ k.start → history x ≡ k.log → Tells limit id 1 me (λ n. n) (looked origin history any me) s
+  turn_begins limit id me s k x at waits hit mine home begun whole =
       let v : View = me.0 in
       let w : View = with_turn v (history x) in
       let live : is_live v.stage ≡ true = ap is_live waits in
       let is_out : out v.stage ≡ 1 = ap out waits in
       let line : InLine k.served k.drawn v.ticket waiting = subst (InLine k.served k.drawn v.ticket) waits (k.in_line id v at) in
       let before : v.ticket < k.drawn = line.1 in
-      let kn = knows_at limit s k id v at live in
-      (
+      let kn = knows_at limit s k id v at live in (
         w,
         takes 0 (Some x),
         ap (λ (hs : List (maybe.Option (Option A))). get_elem? hs 0) home,
@@ -312,9 +314,9 @@ module _ {A : Type 0} (origin : A → Origin) (history : A → List Entry) where
       )
 
   -- a look, where the words say that the ticket is served
-  turn_comes : (limit id : ℕ) (me : Me (Option A) View) (st : Step (Option A)) (s : St) (k : Rule limit s) → At s.views id me.0 → me.0.stage ≡ waiting → slice_index s.words 1 ≡ me.0.ticket % 2 ^ 64
-      → Tells limit id 1 me (λ n. n) (looked origin history st me) s
-  turn_comes limit id me st s k at waits hit =
+  turn_comes : (limit id : ℕ) (me : Me (Option A) View) (s : St) (k : Rule limit s) → At s.views id me.0 → me.0.stage ≡ waiting → slice_index s.words 1 ≡ me.0.ticket % 2 ^ 64
+      → Tells limit id 1 me (λ n. n) (looked origin history any me) s
+  turn_comes limit id me s k at waits hit =
       let v : View = me.0 in
       let line : InLine k.served k.drawn v.ticket waiting = subst (InLine k.served k.drawn v.ticket) waits (k.in_line id v at) in
       let after : k.served ≤ v.ticket = line.0 in
@@ -323,14 +325,14 @@ module _ {A : Type 0} (origin : A → Origin) (history : A → List Entry) where
       let same : k.served % 2 ^ 64 ≡ v.ticket % 2 ^ 64 = sym (ap (λ (ws : List ℕ). slice_index ws 1) k.words) ∙ hit in
       let mine : k.served ≡ v.ticket = one_turn k.served v.ticket (2 ^ 64) after (omega arith) same in
       let home = at_home limit s k (λ j u a. dite (ℕ_discrete j id)
-          (λ e is. let n : serving ≡ waiting = sym is ∙ (ap (λ (z : View). z.stage) (same_view s.views j id u v e a at) ∙ waits) in cc)
-          (λ ne. no_other limit s k id v at (ap out waits) (sym mine) j u ne a)) in
-      turn_begins limit id me st s k home.0 at waits hit mine home.1 home.2 home.3
+      (λ e is. let n : serving ≡ waiting = sym is ∙ (ap (λ (z : View). z.stage) (same_view s.views j id u v e a at) ∙ waits) in cc)
+      (λ ne. no_other limit s k id v at (ap out waits) (sym mine) j u ne a)) in
+      turn_begins limit id me s k home.0 at waits hit mine home.1 home.2 home.3
 
   -- a look, of a view with a ticket that is not served yet
-  pub looks : (limit slots id : ℕ) (me : Me (Option A) View) (st : Step (Option A)) → me.0.stage ≡ waiting → Allows (Rule limit) slots id me 1 (λ n. n) (looked origin history st me)
-  looks limit slots id me st waits s k wide at _ = dite (ℕ_discrete (slice_index s.words 1) (me.0.ticket % 2 ^ 64))
-      (λ hit. turn_comes limit id me st s k at waits hit)
+  pub looks : (limit slots id : ℕ) (me : Me (Option A) View) → me.0.stage ≡ waiting → Allows (Rule limit) slots id me 1 (λ n. n) (looked origin history any me)
+  looks limit slots id me waits s k wide at _ = dite (ℕ_discrete (slice_index s.words 1) (me.0.ticket % 2 ^ 64))
+      (λ hit. turn_comes limit id me s k at waits hit)
       (λ miss. (
         me.0,
         keeps,
@@ -339,17 +341,16 @@ module _ {A : Type 0} (origin : A → Origin) (history : A → List Entry) where
         ((λ hit. absurd (miss hit)), λ _. refl),
       ))
 
-  turn_ends : (limit slots id : ℕ) (v : View) (x : A) (st : Step (Option A)) → v.stage ≡ serving → history x ≡ v.seen → origin x ≡ v.origin
-      → Allows (Rule limit) slots id (v, (0, Some x) ∷ []) 1 (λ n. (n + 1) % 2 ^ 64) (served_next origin history st (v, (0, Some x) ∷ []))
-  turn_ends limit slots id v x st serves seen begun s k wide at _ =
+  turn_ends : (limit slots id : ℕ) (v : View) (x : A) → v.stage ≡ serving → history x ≡ v.seen → origin x ≡ v.origin
+      → Allows (Rule limit) slots id (v, (0, Some x) ∷ []) 1 (λ n. (n + 1) % 2 ^ 64) (served_next origin history any (v, (0, Some x) ∷ []))
+  turn_ends limit slots id v x serves seen begun s k wide at _ =
       let w : View = at_rest v in
       let live : is_live v.stage ≡ true = ap is_live serves in
       let is_out : out v.stage ≡ 1 = ap out serves in
       let line : InLine k.served k.drawn v.ticket serving = subst (InLine k.served k.drawn v.ticket) serves (k.in_line id v at) in
       let mine : v.ticket ≡ k.served = line.0 in
       let kn = knows_at limit s k id v at live in
-      let fits : Fits k.start k.log limit k.made k.pending v serving = subst (Fits k.start k.log limit k.made k.pending v) serves (k.fits id v at) in
-      (
+      let fits : Fits k.start k.log limit k.made k.pending v serving = subst (Fits k.start k.log limit k.made k.pending v) serves (k.fits id v at) in (
         w,
         gives,
         tt,
@@ -377,15 +378,15 @@ module _ {A : Type 0} (origin : A → Origin) (history : A → List Entry) where
       )
 
   -- serve next, of a view with the turn, whose value has the history that the view has seen
-  pub serves : (limit slots id : ℕ) (me : Me (Option A) View) (x : A) (st : Step (Option A)) → me.0.stage ≡ serving → me.1 ≡ (0, Some x) ∷ [] → history x ≡ me.0.seen → origin x ≡ me.0.origin
-      → Allows (Rule limit) slots id me 1 (λ n. (n + 1) % 2 ^ 64) (served_next origin history st me)
-  serves limit slots id me x st turn slot seen begun =
-      subst (λ (c : List (ℕ × Option A)). Allows (Rule limit) slots id (me.0, c) 1 (λ n. (n + 1) % 2 ^ 64) (served_next origin history st (me.0, c))) (sym slot) (turn_ends limit slots id me.0 x st turn seen begun)
+  pub serves : (limit slots id : ℕ) (me : Me (Option A) View) (x : A) → me.0.stage ≡ serving → me.1 ≡ (0, Some x) ∷ [] → history x ≡ me.0.seen → origin x ≡ me.0.origin
+      → Allows (Rule limit) slots id me 1 (λ n. (n + 1) % 2 ^ 64) (served_next origin history any me)
+  serves limit slots id me x turn slot seen begun =
+      subst (λ (c : List (ℕ × Option A)). Allows (Rule limit) slots id (me.0, c) 1 (λ n. (n + 1) % 2 ^ 64) (served_next origin history any (me.0, c))) (sym slot) (turn_ends limit slots id me.0 x turn seen begun)
 
   -- a commit, of a view with the turn, whose value has one entry more than the view has seen
-  pub commits : (limit slots id : ℕ) (me : Me (Option A) View) (x : A) (e : Entry) (st : Step (Option A)) → me.0.stage ≡ serving → me.1 ≡ (0, Some x) ∷ [] → history x ≡ me.0.seen ++ e ∷ [] → e.caller ≡ me.0.number
-      → Allows (Rule limit) slots id me 2 (λ n. (n + 1) % 2 ^ 64) (committed origin history st me)
-  commits limit slots id me x e st turn slot grown caller s k wide at _ =
+  pub commits : (limit slots id : ℕ) (me : Me (Option A) View) (x : A) (e : Entry) → me.0.stage ≡ serving → me.1 ≡ (0, Some x) ∷ [] → history x ≡ me.0.seen ++ e ∷ [] → e.caller ≡ me.0.number
+      → Allows (Rule limit) slots id me 2 (λ n. (n + 1) % 2 ^ 64) (committed origin history any me)
+  commits limit slots id me x e turn slot grown caller s k wide at _ =
       let v : View = me.0 in
       let w : View = with_entry v e in
       let log' : List Entry = k.log ++ e ∷ [] in
@@ -397,8 +398,7 @@ module _ {A : Type 0} (origin : A → Origin) (history : A → List Entry) where
       let fits : Fits k.start k.log limit k.made k.pending v serving = subst (Fits k.start k.log limit k.made k.pending v) turn (k.fits id v at) in
       let all : w.seen ≡ log' = ap (λ (l : List Entry). l ++ e ∷ []) fits.1 in
       let below : v.number < k.made + more k.pending = kn.numbered in
-      let long : length log' ≡ length k.log + 1 = length-append k.log (e ∷ []) in
-      (
+      let long : length log' ≡ length k.log + 1 = length-append k.log (e ∷ []) in (
         w,
         keeps,
         tt,
@@ -413,9 +413,9 @@ module _ {A : Type 0} (origin : A → Origin) (history : A → List Entry) where
             (inr (out_with limit s k id v at turn, (id, w, at_here s.views id v w at, turn)))
             (subst (λ (z : Stage). Fits k.start log' limit k.made k.pending w z) (sym turn) (knows_own k.start k.log limit k.made k.pending v e caller fits.1 kn, all))
             (λ j u ne a. fits_more k.start k.log limit k.made k.pending u u.stage e
-                (λ l z. (k.apart id j v u at a (λ y. ne (sym y))).0 live l (sym caller ∙ z))
-                (λ _. no_other limit s k id v at is_out mine j u ne a)
-                (k.fits j u a))
+            (λ l z. (k.apart id j v u at a (λ y. ne (sym y))).0 live l (sym caller ∙ z))
+            (λ _. no_other limit s k id v at is_out mine j u ne a)
+            (k.fits j u a))
             (id, w, at_here s.views id v w at, (live, all))
             refl
             (omega arith)
@@ -424,9 +424,9 @@ module _ {A : Type 0} (origin : A → Origin) (history : A → List Entry) where
       )
 
   -- enlist, of the first view, while a pass is being made
-  pub enlists : (limit slots id : ℕ) (me : Me (Option A) View) (st : Step (Option A)) → me.0.stage ≡ resting → me.0.number ≡ 0 → me.0.pending ≡ true
-      → Allows (Rule limit) slots id me 3 (λ n. (n + 1) % 2 ^ 64) (enlisted origin history st me)
-  enlists limit slots id me st rest first pends s k wide at _ =
+  pub enlists : (limit slots id : ℕ) (me : Me (Option A) View) → me.0.stage ≡ resting → me.0.number ≡ 0 → me.0.pending ≡ true
+      → Allows (Rule limit) slots id me 3 (λ n. (n + 1) % 2 ^ 64) (enlisted origin history any me)
+  enlists limit slots id me rest first pends s k wide at _ =
       let v : View = me.0 in
       let w : View = having_made v in
       let live : is_live v.stage ≡ true = ap is_live rest in
@@ -436,8 +436,7 @@ module _ {A : Type 0} (origin : A → Origin) (history : A → List Entry) where
       let limited : k.made + more k.pending ≤ limit = k.limited in
       let narrow : limit < 2 ^ 32 = k.narrow in
       let same : k.made + 1 + more false ≡ k.made + more k.pending = omega arith in
-      let small : (k.made + 1) % 2 ^ 64 ≡ k.made + 1 = mod-eq_of_lt (omega arith) in
-      (
+      let small : (k.made + 1) % 2 ^ 64 ≡ k.made + 1 = mod-eq_of_lt (omega arith) in (
         w,
         keeps,
         tt,
@@ -461,8 +460,8 @@ module _ {A : Type 0} (origin : A → Origin) (history : A → List Entry) where
               first = λ _. (ap (λ (n : ℕ). n + 1) is.0, refl);
             })
             (λ j u ne a. fits_made k.start k.log limit k.made k.pending u u.stage (k.made + 1) false (omega arith)
-                (λ l z. (k.apart id j v u at a (λ y. ne (sym y))).0 live l (first ∙ sym z))
-                (k.fits j u a))
+            (λ l z. (k.apart id j v u at a (λ y. ne (sym y))).0 live l (first ∙ sym z))
+            (k.fits j u a))
             (exists_set (HasSeen k.log) (HasSeen k.log) s.views id v w at (λ h. h) (λ _ _ _ _ h. h) k.longest)
             same
             (omega arith)
@@ -471,16 +470,15 @@ module _ {A : Type 0} (origin : A → Origin) (history : A → List Entry) where
       )
 
   -- a look at the number of entries, of a view that is not spent
-  pub bounds : (limit slots id : ℕ) (me : Me (Option A) View) (st : Step (Option A)) → me.0.stage ≡ resting → Allows (Rule limit) slots id me 2 (λ n. n) (bounded origin history st me)
-  bounds limit slots id me st rest s k wide at _ =
+  pub bounds : (limit slots id : ℕ) (me : Me (Option A) View) → me.0.stage ≡ resting → Allows (Rule limit) slots id me 2 (λ n. n) (bounded origin history any me)
+  bounds limit slots id me rest s k wide at _ =
       let v : View = me.0 in
       let kn = knows_at limit s k id v at (ap is_live rest) in
       let part = total_part held_of s.views id v at in
       let parts = k.parts in
       let limited : k.made + more k.pending ≤ limit = k.limited in
       let same : v.limit ≡ limit = kn.limited in
-      let narrow : limit < 2 ^ 32 = k.narrow in
-      (
+      let narrow : limit < 2 ^ 32 = k.narrow in (
         v,
         keeps,
         tt,

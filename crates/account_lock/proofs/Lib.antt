@@ -1,3 +1,4 @@
 pub mod Seats
 pub mod Keeps
 pub mod Joins
+pub mod Ties

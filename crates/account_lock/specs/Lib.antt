@@ -3,3 +3,7 @@ pub mod Views
 pub mod Order
 pub mod Steps
 pub mod Closing
+pub mod Ties
+pub mod Passes
+pub mod Turns
+pub mod Lending

@@ -6,6 +6,10 @@ use Rattle.account_core.specs.Histories.{Origin, Begins, EachBegins, calls_by}
 use Rattle.account_lock.specs.Known.{View}
 use Rattle.account_lock.specs.Views.{with_ticket, with_turn, at_rest, with_entry, having_made}
 
+-- all that the view has seen is a prefix of these entries, and those with its number are the ones that it made
+abbrev pub Extends : View → List Entry → Type 0
+Extends v log = Begins v.seen log × EachBegins v.olds log × (calls_by v.number log ≡ v.mine)
+
 module _ {A : Type 0} (origin : A → Origin) (history : A → List Entry) where
   -- a view, and the slot that is out with it
   abbrev pub Seated : Type 0
@@ -14,10 +18,6 @@ module _ {A : Type 0} (origin : A → Origin) (history : A → List Entry) where
   -- draw: a ticket was drawn, and this is its number
   abbrev pub drew : Step (Option A) → Seated → ℕ → Seated → Type 0
   drew step m r m' = (t : ℕ) × (r ≡ t % 2 ^ 64) × (m' ≡ (with_ticket m.0 t, m.1))
-
-  -- all that the view has seen is a prefix of these entries, and those with its number are the ones that it made
-  abbrev pub Extends : View → List Entry → Type 0
-  Extends v log = Begins v.seen log × EachBegins v.olds log × (calls_by v.number log ≡ v.mine)
 
   -- look: where its ticket is served it took the slot, with a value that has the whole history; else nothing changed
   abbrev pub looked : Step (Option A) → Seated → ℕ → Seated → Type 0
