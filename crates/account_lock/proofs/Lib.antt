@@ -2,3 +2,4 @@ pub mod Seats
 pub mod Keeps
 pub mod Joins
 pub mod Ties
+pub mod Moments

@@ -7,3 +7,4 @@ pub mod Ties
 pub mod Passes
 pub mod Turns
 pub mod Lending
+pub mod Laws

@@ -44,6 +44,9 @@ is_live waiting = true
 is_live serving = true
 is_live spent = false
 
+abbrev pub IsLive : View → Type 0
+IsLive v = is_live v.stage ≡ true
+
 -- 1 where a pass is being made
 abbrev pub more : Bool → ℕ
 more true = 1
@@ -80,14 +83,14 @@ Fits start log limit made pending v spent = (v.held ≡ 0) × (v.own ≡ 0)
 
 -- two passes have two numbers, and two tickets that are out differ
 abbrev pub Apart : View → View → Type 0
-Apart v w = (is_live v.stage ≡ true → is_live w.stage ≡ true → v.number ≢ w.number) × (out v.stage ≡ 1 → out w.stage ≡ 1 → v.ticket ≢ w.ticket)
+Apart v w = (IsLive v → IsLive w → v.number ≢ w.number) × (out v.stage ≡ 1 → out w.stage ≡ 1 → v.ticket ≢ w.ticket)
 
 -- it has seen the whole history
 abbrev pub HasSeen : List Entry → View → Type 0
-HasSeen log v = (is_live v.stage ≡ true) × (v.seen ≡ log)
+HasSeen log v = IsLive v × (v.seen ≡ log)
 
 abbrev pub IsFirst : View → Type 0
-IsFirst v = (is_live v.stage ≡ true) × (v.number ≡ 0)
+IsFirst v = IsLive v × (v.number ≡ 0)
 
 abbrev pub IsServing : View → Type 0
 IsServing v = v.stage ≡ serving
