@@ -20,8 +20,7 @@ module _ {A : Type 0} (origin : A → Origin) (history : A → List Entry) where
 
   pub one_turn : OneTurn origin history
   one_turn limit s k i j v w at at' is is' =
-      let line : InLine k.served k.drawn v.ticket serving = subst (InLine k.served k.drawn v.ticket) is (k.in_line i v at) in
-      (
+      let line : InLine k.served k.drawn v.ticket serving = subst (InLine k.served k.drawn v.ticket) is (k.in_line i v at) in (
         dite (ℕ_discrete i j) (λ e. e) (λ ne. absurd (no_other origin history limit s k i v at (ap out is) line.0 j w (λ e. ne (sym e)) at' is')),
         ap (λ (ws : List ℕ). slice_index ws 1) k.words ∙ ap (λ (n : ℕ). n % 2 ^ 64) (sym line.0),
       )
@@ -31,8 +30,7 @@ module _ {A : Type 0} (origin : A → Origin) (history : A → List Entry) where
       let a = total_below tickets_of held_of s.views (λ j u at. out_held k.start k.log limit k.made k.pending u u.stage (k.fits j u at)) in
       let b = k.tickets in
       let c = k.parts in
-      let d : k.made + more k.pending ≤ limit = k.limited in
-      (
+      let d : k.made + more k.pending ≤ limit = k.limited in (
         k.served,
         k.drawn,
         ap (λ (ws : List ℕ). slice_index ws 0) k.words,
@@ -53,16 +51,15 @@ module _ {A : Type 0} (origin : A → Origin) (history : A → List Entry) where
   pub home_is_counted : HomeIsCounted origin history
   home_is_counted limit s k x is = ⊎_elim
       (λ (y, is', begun, whole, _).
-          let same : x ≡ y = same_home x y (sym is ∙ is') in
-          let whole' : history x ≡ k.log = ap history same ∙ whole in
-          (
-            ap (λ (ws : List ℕ). slice_index ws 2) k.words ∙ ap (λ (l : List Entry). length l % 2 ^ 64) (sym whole'),
-            λ i v at live. let kn = knows_at origin history limit s k i v at live in (
-              kn.origin ∙ sym (ap origin same ∙ begun),
-              subst (Begins v.seen) (sym whole') kn.seen,
-              subst (EachBegins v.olds) (sym whole') kn.olds,
-              ap (calls_by v.number) whole' ∙ kn.mine,
-            ),
-          ))
+      let same : x ≡ y = same_home x y (sym is ∙ is') in
+      let whole' : history x ≡ k.log = ap history same ∙ whole in (
+        ap (λ (ws : List ℕ). slice_index ws 2) k.words ∙ ap (λ (l : List Entry). length l % 2 ^ 64) (sym whole'),
+        λ i v at live. let kn = knows_at origin history limit s k i v at live in (
+          kn.origin ∙ sym (ap origin same ∙ begun),
+          subst (Begins v.seen) (sym whole') kn.seen,
+          subst (EachBegins v.olds) (sym whole') kn.olds,
+          ap (calls_by v.number) whole' ∙ kn.mine,
+        ),
+      ))
       (λ (is', _). absurd (let e : ◌≡◌ {A = List (maybe.Option (Option A))} (some (Some x) ∷ []) (none ∷ []) = sym is ∙ is' in cc))
       k.home

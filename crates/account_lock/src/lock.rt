@@ -59,8 +59,8 @@ impl<V: Booked> Lock<V> {
     /// Waits until it is the pass's turn. The pass has then seen the whole history.
     pub fn enter<'a, R: Wait>(&'a self, rt: &R, pass: &'a mut Pass) -> Turn<'a, V>
         requires { IsOf self.now pass.old }
-        ensures same_pass { result.pass.ghost_name ≡ pass.entry.ghost_name }
-        ensures lock { result.lock.now ≡ self.now }
+        ensures pass { turns.IsLent pass.entry result }
+        ensures lock { turns.lock_of result ≡ self.now }
         ensures turn { turns.IsTurnOf self.now result }
         ensures same { IsSame (view pass.old) (turns.view_in result) }
         ensures origin { V.origin (turns.value_in result) ≡ (view pass.old).origin }

@@ -17,9 +17,8 @@ pub struct Turn<'a, V: Booked> {
 }
 
 impl<V: Booked> Turn<'_, V> {
-    ghost use Rattle.account_lock.specs.Known.{View};
     ghost use Rattle.account_lock.specs.Passes.{view, IsSame, IsOf};
-    ghost use Rattle.account_lock.specs.Turns.{view_in, value_in, IsTurnOf};
+    ghost use Rattle.account_lock.specs.Turns.{view_in, value_in, lock_of, IsTurnOf};
     ghost use Rattle.account_lock.specs.Lending.{with_value};
     ghost use Rattle.account_lock.specs.contracts.turn.Turn.{the_row};
 
@@ -40,10 +39,10 @@ impl<V: Booked> Turn<'_, V> {
 
     /// Ends the turn, in which one entry with the pass's number was added to the value's history.
     pub fn commit(self)
-        requires turn { IsTurnOf self.lock.now self }
+        requires turn { IsTurnOf (lock_of self) self }
         requires entry { (e : Entry) × (e.caller ≡ (view_in self).number) × (V.history (value_in self) ≡ (view_in self).seen ++ e ∷ []) }
         requires origin { V.origin (value_in self) ≡ (view_in self).origin }
-        ensures pass { IsOf self.entry.lock.now self.exit.0.now }
+        ensures pass { IsOf (lock_of self.entry) self.exit.0.now }
         ensures entry { (e : Entry) × (e.caller ≡ (view_in self.entry).number) × (V.history (value_in self.entry) ≡ (view_in self.entry).seen ++ e ∷ []) × ((view self.exit.0.now).mine ≡ (view_in self.entry).mine ++ e ∷ []) }
         ensures seen { (view self.exit.0.now).seen ≡ V.history (value_in self.entry) }
         ensures own { (view self.exit.0.now).own ≡ (view_in self.entry).own + 1 }
@@ -61,9 +60,9 @@ impl<V: Booked> Turn<'_, V> {
 
     /// Ends the turn, in which no entry was added to the value's history.
     pub fn leave(self)
-        requires turn { IsTurnOf self.lock.now self }
+        requires turn { IsTurnOf (lock_of self) self }
         requires history { (V.history (value_in self) ≡ (view_in self).seen) × (V.origin (value_in self) ≡ (view_in self).origin) }
-        ensures pass { IsOf self.entry.lock.now self.exit.0.now }
+        ensures pass { IsOf (lock_of self.entry) self.exit.0.now }
         ensures same { IsSame (view_in self.entry) (view self.exit.0.now) }
         ensures seen { (view self.exit.0.now).seen ≡ (view_in self.entry).seen }
     {
