@@ -1,7 +1,8 @@
 // The lock over a value of the tests' own: a list of entries beside a number.
-ghost use Rattle.std.specs.Prelude.{◌≡◌, ◌≢◌, ◌+◌, ◌++◌, [], ◌∷◌, ℕ, length, OnOk, OnErr, IfOk, All};
+ghost use Rattle.std.specs.Prelude.{◌≡◌, ◌≢◌, ◌+◌, ◌++◌, [], ◌∷◌, length, if◌then◌else◌, OnOk, OnErr, IfSome};
 ghost use Rattle.std.specs.Thread.{IsSync};
 ghost use Rattle.account_core.specs.declared.calls.Entry.{Entry};
+ghost use Rattle.account_core.specs.Histories.{CallersBelow};
 ghost use Rattle.account_lock.specs.Known.{nowhere};
 ghost use Rattle.account_lock.specs.Passes.{IsOf, view};
 
@@ -288,5 +289,55 @@ fn eight_threads_share_one_history(rt: HostRuntime) -> Result<(), Fail> {
         return Err("refused with all passes joined".into());
     };
     assert!(rt; are_all_calls(alloc, &tally, 8)?, "other calls");
+    Ok(())
+}
+
+/// Makes one call, and says whether it was made.
+fn call_once<R: Wait>(rt: &R, alloc: Global, lock: &Lock<Tally>, mut pass: Pass) -> (Pass, bool)
+    requires { IsOf lock.now pass }
+    ensures lock { IsOf lock.now result.0 }
+    ensures same { ((view result.0).number ≡ (view pass).number) × ((view result.0).held ≡ (view pass).held) × ((view result.0).made ≡ (view pass).made) }
+    ensures own { (view result.0).own ≡ (view pass).own + (if result.1 then 1 else 0) }
+{
+    let made = call(rt, alloc, lock, &mut pass, b"");
+    (pass, made.is_ok())
+}
+
+/// What two threads do, each with one call: of a history that is closed, each entry is one of these calls.
+fn call_in_two<R: Threads + Wait + Sync>(
+    rt: &R,
+    alloc: Global,
+    tally: Tally,
+) -> Option<(Tally, bool, bool)>
+    requires { tally.entries.items ≡ [] }
+    ensures calls { IfSome result (λ end. length end.0.entries.items ≡ (if end.1 then 1 else 0) + (if end.2 then 1 else 0)) }
+    ensures callers { IfSome result (λ end. CallersBelow 2 end.0.entries.items) }
+{
+    let Ok((lock, mut first)) = Lock::new(alloc, tally, 2) else {
+        return None;
+    };
+    let Ok(second) = lock.enlist(&mut first) else {
+        return None;
+    };
+    let ((mut first, made), (second, also)) = join(
+        rt,
+        || call_once(rt, alloc, &lock, first),
+        || call_once(rt, alloc, &lock, second),
+    );
+    lock.join(&mut first, second);
+    let Ok(tally) = lock.close(first) else {
+        return None;
+    };
+    Some((tally, made, also))
+}
+
+#[test]
+fn a_closed_history_has_just_the_calls_that_were_made(rt: HostRuntime) -> Result<(), Fail> {
+    let alloc = rt.alloc();
+    let Some((tally, made, also)) = call_in_two(&rt, alloc, Tally::new(alloc)) else {
+        return Err("no memory".into());
+    };
+    assert!(rt; made && also, "calls were not made");
+    assert_eq!(rt; tally.entries.len(), 2);
     Ok(())
 }
