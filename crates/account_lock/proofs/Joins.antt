@@ -1,11 +1,10 @@
 -- A lock's rule at the start, where passes are made and joined, and at the end.
-use Rattle.std.proofs.Common.{◌≡◌, ◌≢◌, ◌<◌, ◌≤◌, ◌+◌, ◌%◌, ◌^◌, ℕ, suc, Bool, true, false, List, [], ◌∷◌, ◌++◌, length, map, set, refl, sym, ap, ◌∙◌, subst, ◌⊎◌, inl, inr, ⊎_elim, arith, Option, Some, ltb, if◌then◌else◌, length-append, zero}
+use Rattle.std.proofs.Common.{◌≡◌, ◌≢◌, ◌<◌, ◌≤◌, ◌+◌, ◌^◌, ℕ, suc, Bool, true, false, List, [], ◌∷◌, ◌++◌, length, set, refl, sym, ap, ◌∙◌, subst, ◌⊎◌, inl, inr, ⊎_elim, arith, Option, Some, ltb, zero}
 use Rattle.std.proofs.lemmas.Bool.{ltb-true, ltb-false}
-use Rattle.std.specs.Prelude.{slice_index, slice_set}
 use mathlib.Core.Option as maybe
 use mathlib.Core.Option.{some, none, some-injective, some-ne-none}
 use mathlib.Core.Logic.{dite}
-use native.Mathlib.Decide.{ℕ_discrete, dec_le}
+use native.Mathlib.Decide.{ℕ_discrete}
 use lib.ListN.{get_elem?}
 use Rattle.atomic_table.specs.Table.{State, opening, Final, Seen, Splits, Joins}
 use Rattle.atomic_table.proofs.Lists.{set_else}
@@ -14,9 +13,9 @@ use Rattle.account_core.specs.Histories.{Origin, Begins, EachBegins, calls_by, C
 use Rattle.account_core.proofs.Histories.{begins_whole, begins_shorter, begins_length, each_begins_both, calls_by_nobody, callers_below_up, callers_of_prefix, calls_between}
 use Rattle.account_lock.specs.Known.{View, Stage, resting, waiting, serving, spent, nobody}
 use Rattle.account_lock.specs.Views.{first_view, making, newcomer, longer, joined}
-use Rattle.account_lock.specs.Order.{At, Exists, total, out, tickets_of, held_of, own_of, is_live, more, HasTicket, InLine, Knows, Fits, Apart, HasSeen, IsFirst, IsServing, Home, Kept}
+use Rattle.account_lock.specs.Order.{At, Exists, out, tickets_of, held_of, own_of, is_live, more, HasTicket, InLine, Knows, Fits, Apart, HasSeen, IsFirst, IsServing, Home, Kept}
 use Rattle.account_lock.specs.Closing.{Leaves}
-use Rattle.account_lock.proofs.Seats.{at_within, at_here, at_there, same_view, each_set, each_end, pairs_set, pairs_end, exists_set, exists_end, total_set, total_end, total_part, total_parts, total_alone}
+use Rattle.account_lock.proofs.Seats.{at_here, at_there, same_view, each_set, each_end, pairs_set, pairs_end, exists_set, exists_end, total_set, total_end, total_part, total_parts, total_alone}
 use Rattle.account_lock.proofs.Keeps.{knows_at, fits_made, turned, home_set, at_home}
 
 -- of two lists the longer

@@ -1,11 +1,11 @@
 -- Each kind of step on one view keeps the rule of a lock.
-use Rattle.std.proofs.Common.{◌≡◌, ◌≢◌, ◌<◌, ◌≤◌, ◌+◌, ◌%◌, ◌/◌, ◌*◌, ◌^◌, ℕ, suc, Bool, true, false, List, [], ◌∷◌, ◌++◌, length, set, refl, sym, ap, ◌∙◌, subst, ◌⊎◌, inl, inr, ⊎_elim, arith, Option, Some, div-add-mod', mod-eq_of_lt, length-append, le_refl}
+use Rattle.std.proofs.Common.{◌≡◌, ◌≢◌, ◌<◌, ◌≤◌, ◌+◌, ◌%◌, ◌/◌, ◌*◌, ◌^◌, ℕ, Bool, true, false, List, [], ◌∷◌, ◌++◌, length, set, refl, sym, ap, ◌∙◌, subst, ◌⊎◌, inl, inr, ⊎_elim, arith, Option, Some, div-add-mod', mod-eq_of_lt, length-append}
 use Rattle.std.specs.Prelude.{slice_index, slice_set}
 use Rattle.std.proofs.Math.Nat.{mul-add-mod_self_right}
 use mathlib.Core.Option as maybe
 use mathlib.Core.Option.{some, none}
 use mathlib.Core.Logic.{dite}
-use native.Mathlib.Decide.{ℕ_discrete, dec_le}
+use native.Mathlib.Decide.{ℕ_discrete}
 use lib.ListN.{get_elem?}
 use Rattle.atomic_table.specs.Table.{State, Me, Step, step, Act, Valid, carried_after, keeps, takes, gives, stepped, Allows}
 use Rattle.atomic_table.proofs.Lists.{set_again, one_turn}
@@ -14,9 +14,9 @@ use Rattle.account_core.specs.Histories.{Origin, Begins, EachBegins, calls_by, C
 use Rattle.account_core.proofs.Histories.{begins_itself, begins_along, each_begins_along, calls_by_own, calls_by_other, callers_below_more}
 use Rattle.account_lock.specs.Known.{View, Stage, resting, waiting, serving, spent}
 use Rattle.account_lock.specs.Views.{with_ticket, with_turn, at_rest, with_entry, having_made}
-use Rattle.account_lock.specs.Order.{At, Exists, total, out, tickets_of, held_of, own_of, is_live, more, HasTicket, InLine, Knows, Fits, Apart, HasSeen, IsFirst, IsServing, Home, Kept}
-use Rattle.account_lock.specs.Steps.{drew, Extends, looked, served_next, committed, enlisted, bounded}
-use Rattle.account_lock.proofs.Seats.{at_here, at_there, same_view, each_set, pairs_set, exists_set, total_set, total_part, total_below}
+use Rattle.account_lock.specs.Order.{At, Exists, out, tickets_of, held_of, own_of, is_live, more, HasTicket, InLine, Knows, Fits, Apart, HasSeen, IsFirst, IsServing, Home, Kept}
+use Rattle.account_lock.specs.Steps.{drew, looked, served_next, committed, enlisted, bounded}
+use Rattle.account_lock.proofs.Seats.{at_here, same_view, each_set, pairs_set, exists_set, total_set, total_part, total_below}
 
 -- a word that wraps goes on by one
 pub goes_on : (n m : ℕ) → (n % m + 1) % m ≡ (n + 1) % m

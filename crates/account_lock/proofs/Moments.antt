@@ -1,5 +1,5 @@
 -- The laws of a lock.
-use Rattle.std.proofs.Common.{◌≡◌, ◌≢◌, ℕ, ◌+◌, ◌%◌, ◌^◌, ◌<◌, ◌≤◌, List, [], ◌∷◌, length, sym, ap, ◌∙◌, subst, ⊎_elim, arith, Option, Some}
+use Rattle.std.proofs.Common.{◌≡◌, ℕ, ◌+◌, ◌%◌, ◌^◌, ◌<◌, ◌≤◌, List, [], ◌∷◌, length, sym, ap, ◌∙◌, subst, ⊎_elim, arith, Option, Some}
 use Rattle.std.specs.Prelude.{slice_index}
 use mathlib.Core.Option as maybe
 use mathlib.Core.Option.{some, none, some-injective, some-ne-none}
@@ -9,7 +9,7 @@ use Rattle.atomic_table.specs.Table.{State}
 use Rattle.account_core.specs.declared.calls.Entry.{Entry}
 use Rattle.account_core.specs.Histories.{Origin, Begins, EachBegins, calls_by}
 use Rattle.account_lock.specs.Known.{View, serving}
-use Rattle.account_lock.specs.Order.{At, Exists, out, tickets_of, held_of, more, HasTicket, InLine, IsServing, Home, Kept}
+use Rattle.account_lock.specs.Order.{out, tickets_of, held_of, more, InLine}
 use Rattle.account_lock.specs.Laws.{OneTurn, TicketsInLine, HomeIsCounted}
 use Rattle.account_lock.proofs.Seats.{total_below}
 use Rattle.account_lock.proofs.Keeps.{in_line_between, no_other, out_held, knows_at}

@@ -1,5 +1,5 @@
 -- What a lock leaves when it is closed.
-use Rattle.std.specs.Prelude.{◌≡◌, ℕ, List, length}
+use Rattle.std.specs.Prelude.{◌≡◌, List, length}
 use Rattle.account_core.specs.declared.calls.Entry.{Entry}
 use Rattle.account_core.specs.Histories.{Origin, Begins, EachBegins, calls_by, CallersBelow}
 use Rattle.account_lock.specs.Known.{View}

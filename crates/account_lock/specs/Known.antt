@@ -1,7 +1,6 @@
 -- What a thread knows that steps on a lock's words: its view.
 use Rattle.std.specs.Prelude.{ℕ, Bool, false, List, []}
-use mathlib.Core.Option.{none}
-use Rattle.std.specs.Prelude.{Option, None}
+use Rattle.std.specs.Prelude.{None}
 use Rattle.account_core.specs.declared.calls.Entry.{Entry}
 use Rattle.account_core.specs.Histories.{Origin}
 

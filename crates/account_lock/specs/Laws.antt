@@ -5,7 +5,7 @@ use Rattle.atomic_table.specs.Table.{State}
 use Rattle.account_core.specs.declared.calls.Entry.{Entry}
 use Rattle.account_core.specs.Histories.{Origin, Begins, EachBegins, calls_by}
 use Rattle.account_lock.specs.Known.{View, serving}
-use Rattle.account_lock.specs.Order.{At, Exists, HasTicket, IsServing, IsLive, Kept}
+use Rattle.account_lock.specs.Order.{At, Exists, HasTicket, IsLive, Kept}
 
 module _ {A : Type 0} (origin : A → Origin) (history : A → List Entry) where
   -- at most one pass has the turn, and it holds the ticket that is served

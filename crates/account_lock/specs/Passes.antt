@@ -1,5 +1,5 @@
 -- What clauses say of a lock and its passes.
-use Rattle.std.specs.Prelude.{◌≡◌, ℕ, ◌≤◌, false, List, [], ◌∷◌}
+use Rattle.std.specs.Prelude.{◌≡◌, ℕ, ◌≤◌, false, [], ◌∷◌}
 use Rattle.account_lock.specs.Known.{View, resting}
 use Rattle.account_lock.specs.Ties.{head_view}
 use Rattle.account_lock.specs.declared.pass.Pass.{Pass}

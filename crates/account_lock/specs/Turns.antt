@@ -1,5 +1,5 @@
 -- What clauses say of a turn.
-use Rattle.std.specs.Prelude.{◌≡◌, ℕ, ◌≤◌, false, List, [], ◌∷◌, Option, None}
+use Rattle.std.specs.Prelude.{◌≡◌, ◌≤◌, false, [], ◌∷◌, None}
 use Rattle.std.specs.Borrow.{MutBor}
 use Rattle.account_lock.specs.Known.{View, serving}
 use Rattle.account_lock.specs.declared.pass.Pass.{Pass}

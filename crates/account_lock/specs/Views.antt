@@ -1,8 +1,8 @@
 -- How a view changes.
-use Rattle.std.specs.Prelude.{ℕ, ◌+◌, Bool, true, false, List, [], ◌∷◌, ◌++◌, length, ltb, if◌then◌else◌}
+use Rattle.std.specs.Prelude.{ℕ, ◌+◌, true, false, List, [], ◌∷◌, ◌++◌, length, ltb, if◌then◌else◌}
 use Rattle.account_core.specs.declared.calls.Entry.{Entry}
 use Rattle.account_core.specs.Histories.{Origin}
-use Rattle.account_lock.specs.Known.{View, resting, waiting, serving, spent, nobody}
+use Rattle.account_lock.specs.Known.{View, resting, waiting, serving}
 
 -- that of the first pass, where so many passes may be made
 abbrev pub first_view : Origin → ℕ → View

@@ -1,5 +1,4 @@
 use Rattle.std.proofs.Common.{Option, IsSome, refl, sym, subst}
-use Rattle.account_lock.specs.Closing.{Leaves}
 use Rattle.account_lock.proofs.Joins.{closes, value_left}
 use Rattle.account_lock.proofs.lock.Lock.end.Goals as goal
 
