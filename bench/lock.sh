@@ -13,7 +13,7 @@ mkdir -p "$work/crates/lock_bench/src"
 for crate in quota_units quota_roots account_core account_lock; do
   mkdir "$work/crates/$crate"
   cp -r "$top/crates/$crate/src" "$top/crates/$crate/specs" "$top/crates/$crate/proofs" "$work/crates/$crate/"
-  grep "^$crate:" "$top/crates.txt" >>"$work/crates.txt"
+  grep "^$crate[: ]" "$top/crates.txt" >>"$work/crates.txt"
 done
 echo 'lock_bench: account_core account_lock' >>"$work/crates.txt"
 cp "$top/HANDLES" "$work/HANDLES"

@@ -81,7 +81,7 @@ impl<V: Booked> Lock<V> {
         unreachable!()
     }
 
-    /// Yields, or sleeps until another ticket than this one is served.
+    /// Yields, the first times, and from then on sleeps until another ticket than this one is served.
     fn pause<R: Wait>(&self, rt: &R, serving: u64, yields: u32) -> u32 {
         if yields < YIELDS {
             thread::yield_now();
@@ -127,7 +127,7 @@ impl<V: Booked> Lock<V> {
         (chair, pass.rise())
     }
 
-    /// Makes one of two.
+    /// Joins the other into this one, which then stands for both.
     pub(crate) fn join_chairs(&self, chair: Chair<V>, other: Chair<V>) -> Chair<V>
         requires lock { (chair.seat.table_id ≡ self.now.table.shared.table_id) × (other.seat.table_id ≡ self.now.table.shared.table_id) }
         requires rests { (chair.seat.me.0.stage ≡ resting) × (chair.seat.me.1 ≡ []) }
