@@ -3,3 +3,4 @@ pub mod Machine
 pub mod History
 pub mod Plain
 pub mod Delivering
+pub mod Histories

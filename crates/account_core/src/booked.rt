@@ -1,0 +1,20 @@
+ghost use Rattle.std.specs.Prelude.{List};
+ghost use Rattle.account_core.specs.declared.calls.Entry.{Entry};
+ghost use Rattle.account_core.specs.Histories.{Origin, origin_of};
+
+use crate::PlainAccount;
+
+/// A value that stands for a history of an account. It names the history for contracts, and has no method.
+///
+/// The members are where the history begins, that is what the account was opened with, and its entries since.
+pub trait Booked {
+    ghost origin: { Self → Origin };
+
+    ghost history: { Self → List Entry };
+}
+
+impl Booked for PlainAccount {
+    ghost origin = { λ account. origin_of account.opened };
+
+    ghost history = { λ account. account.history };
+}

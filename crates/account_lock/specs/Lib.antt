@@ -1,0 +1,10 @@
+pub mod Known
+pub mod Views
+pub mod Order
+pub mod Steps
+pub mod Closing
+pub mod Ties
+pub mod Passes
+pub mod Turns
+pub mod Lending
+pub mod Laws
