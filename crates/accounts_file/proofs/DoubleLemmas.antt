@@ -9,7 +9,8 @@ use Rattle.std.proofs.lemmas.List.{at_drop_more, at_drop_all, take_more, append-
 use Rattle.quota_roots.specs.Setups.{are_different}
 use Rattle.accounts_file.specs.declared.entry.AccountEntry.{AccountEntry}
 use Rattle.accounts_file.specs.declared.error.AccountsError.{AccountsError}
-use Rattle.accounts_file.specs.Doubles.{first_repeat, has_same, repeated, all_recipients, own_double}
+use Rattle.accounts_file.specs.Doubles.{all_recipients, doubles_refusal, first_repeat, has_same, own_double, repeated, repeated_in_any_case}
+use Rattle.accounts_file.specs.Hosts.{AreDifferent}
 use Rattle.accounts_file.specs.Refusals.{double, first_in}
 use Rattle.accounts_file.specs.declared.error.AccountsError.TheVariants.{NoMemory}
 
@@ -116,3 +117,16 @@ pub double_told : (accounts done : List AccountEntry) (account : AccountEntry) (
     → done ++ account ∷ rest ≡ accounts → (e ≡ NoMemory) ⊎ (own_double account ≡ Some e) → (e ≡ NoMemory) ⊎ (first_in (map own_double accounts) ≡ Some e)
 double_told accounts done account rest e none all told =
     subst (λ (l : List AccountEntry). (e ≡ NoMemory) ⊎ (first_in (map own_double l) ≡ Some e)) all (found_or_memory done account rest e none told)
+
+-- accounts of which none is refused are different
+pub no_double : (accounts : List AccountEntry) → doubles_refusal accounts ≡ None → AreDifferent accounts
+no_double accounts none =
+    let names = map (λ (account : AccountEntry). account.name) accounts in
+    let tokens = map (λ (account : AccountEntry). account.token) accounts in
+    let more = double (repeated_in_any_case (all_recipients accounts)) ∷ first_in (map own_double accounts) ∷ [] in
+    let by_name = first_none (double (repeated names)) (double (repeated tokens) ∷ more) none in
+    let by_token = first_none (double (repeated tokens)) more by_name.1 in
+    record {
+      names = different_names names (double_none (repeated names) by_name.0);
+      tokens = different_names tokens (double_none (repeated tokens) by_token.0);
+    }

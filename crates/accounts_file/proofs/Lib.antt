@@ -3,3 +3,4 @@ pub mod RootLemmas
 pub mod DoubleLemmas
 pub mod RuleLemmas
 pub mod FileLemmas
+pub mod LookupLemmas

@@ -1,11 +1,11 @@
 -- The table of a host's accounts, and what is looked up in it.
-use Rattle.std.specs.Prelude.{◌≤◌, ℕ, Bool, true, not, ◌&&◌, List, [], ◌∷◌, length, position, bytes_eq, nat_eq, codes, All, Option, None, Some}
+use Rattle.std.specs.Prelude.{◌≡◌, ◌≤◌, ◌<◌, ℕ, Bool, true, not, ◌&&◌, List, [], ◌∷◌, length, map, position, slice_get, bytes_eq, nat_eq, codes, All, Option, None, Some}
 use Rattle.std.specs.List.{list_any}
 use Rattle.std.specs.Str.{str_eq_ignore_ascii_case}
 use Rattle.quota_units.specs.Limiting.{LimitNumbers}
 use Rattle.quota_roots.specs.declared.root.RootSpec.{RootSpec}
 use Rattle.quota_roots.specs.declared.setup.Setup.{Setup}
-use Rattle.quota_roots.specs.Setups.{IsSound}
+use Rattle.quota_roots.specs.Setups.{IsSound, are_different}
 use Rattle.wire_io.specs.declared.ends.Wire.{Wire}
 use Rattle.wire_io.specs.declared.ends.Wire.TheVariants.{Imap, Jmap, Policy}
 use Rattle.accounts_file.specs.declared.entry.AccountEntry.{AccountEntry}
@@ -16,10 +16,16 @@ pub record Hosts : Type 0 where
   pub accounts : List AccountEntry
   pub epoch : ℕ
 
--- 1 to 32 accounts, each with a sound setup
+-- accounts of which no two have one name or one token
+pub record AreDifferent (accounts : List AccountEntry) : Type 0 where
+  pub names : are_different (map (λ (account : AccountEntry). account.name) accounts) ≡ true
+  pub tokens : are_different (map (λ (account : AccountEntry). account.token) accounts) ≡ true
+
+-- 1 to 32 accounts, different, each with a sound setup
 pub record AreAccounts (accounts : List AccountEntry) : Type 0 where
   pub some : 1 ≤ length accounts
   pub few : length accounts ≤ 32
+  pub different : AreDifferent accounts
   pub sound : All (λ (account : AccountEntry). IsSound account.setup) accounts
 
 -- the account of this name
@@ -37,6 +43,12 @@ logged_in accounts name password = position (λ account. bytes_eq account.name n
 -- the account that has this token
 abbrev pub holder : List AccountEntry → List ℕ → Option ℕ
 holder accounts token = position (λ account. is_secret_of account.token token) accounts
+
+-- each account is the one that its own name, password and token find
+pub record AreToldApart (accounts : List AccountEntry) : Type 0 where
+  pub by_name : (account : ℕ) (entry : AccountEntry) → slice_get accounts account ≡ Some entry → named accounts entry.name ≡ Some account
+  pub by_password : (account : ℕ) (entry : AccountEntry) → slice_get accounts account ≡ Some entry → 0 < length entry.password → logged_in accounts entry.name entry.password ≡ Some account
+  pub by_token : (account : ℕ) (entry : AccountEntry) → slice_get accounts account ≡ Some entry → 0 < length entry.token → holder accounts entry.token ≡ Some account
 
 -- the account among whose recipients the address is, in any ASCII case
 abbrev pub receiver : List AccountEntry → List ℕ → Option ℕ

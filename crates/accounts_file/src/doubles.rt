@@ -4,6 +4,7 @@ ghost use Rattle.std.specs.Str.{str_eq_ignore_ascii_case};
 ghost use Rattle.quota_roots.specs.RootLists.{first_double, has_name};
 ghost use Rattle.quota_roots.specs.Setups.{IsSound};
 ghost use Rattle.accounts_file.specs.Doubles.{all_recipients, doubles_refusal, has_same, own_double, repeated, repeated_in_any_case, repeated_root};
+ghost use Rattle.accounts_file.specs.Hosts.{AreDifferent};
 ghost use Rattle.accounts_file.specs.Refusals.{double, first_in, Checks, Reads};
 
 use crate::draft::Draft;
@@ -200,12 +201,14 @@ fn all_recipients(alloc: Global, drafts: &[Draft]) -> Result<Vec<Name>, Accounts
 }
 
 /// The accounts, where no name, token, recipient, mailbox or root stands twice.
+#[tactic(auto, using(crate::proofs::DoubleLemmas::no_double))]
 pub(crate) fn different_accounts(
     alloc: Global,
     drafts: Vec<Draft>,
 ) -> Result<Vec<AccountEntry>, AccountsError>
     ensures ok { IfOk result (λ entries. (doubles_refusal drafts.items ≡ None) × (entries.items ≡ drafts.items)) }
     ensures sound { IfOk result (λ entries. All (λ entry. IsSound entry.setup) entries.items) }
+    ensures different { IfOk result (λ entries. AreDifferent entries.items) }
     ensures err { IfErr result (λ e. (e ≡ AccountsError.NoMemory) ⊎ (doubles_refusal drafts.items ≡ Some e)) }
 {
     check_names(alloc, &all_names(alloc, &drafts)?)?;

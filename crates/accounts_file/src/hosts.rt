@@ -2,7 +2,7 @@ ghost use Rattle.std.specs.Prelude.{◌≡◌, ◌<◌, ◌&&◌, bytes_eq, leng
 ghost use Rattle.std.specs.List.{list_any};
 ghost use Rattle.std.specs.Str.{str_eq_ignore_ascii_case};
 ghost use Rattle.quota_roots.specs.Setups.{IsSound};
-ghost use Rattle.accounts_file.specs.Hosts.{AreAccounts, holder, is_secret_of, logged_in, named, port_of, receiver};
+ghost use Rattle.accounts_file.specs.Hosts.{AreAccounts, AreToldApart, holder, is_secret_of, logged_in, named, port_of, receiver};
 
 use crate::entry::AccountEntry;
 use crate::settings::Settings;
@@ -68,6 +68,13 @@ impl HostTable {
         ensures within { IfSome result (λ account. account < length self.now.accounts) }
     {
         holder(&self.accounts, token).map(|at| at as u32)
+    }
+
+    /// A law: each account is the one that its own name, password and token find.
+    pub fn tells_accounts_apart(&self)
+        ensures { AreToldApart self.now.accounts }
+    {
+        let _count = self.count();
     }
 
     /// The number of the account that gets mail for this address, in any ASCII case.
