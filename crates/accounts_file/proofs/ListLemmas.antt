@@ -1,9 +1,9 @@
 -- Lists of values, one on.
-use Rattle.std.proofs.Common.{◌≡◌, ℕ, suc, ◌+◌, ◌<◌, ◌≤◌, Bool, true, false, ◌&&◌, List, [], ◌∷◌, ◌++◌, length, map, take, drop, get_or, Option, None, Some, is_some, nat_le, arith, refl, ◌∙◌, sym, ap, ◌⊎◌, inl, inr}
+use Rattle.std.proofs.Common.{◌≡◌, ℕ, suc, ◌+◌, ◌<◌, ◌≤◌, true, ◌&&◌, List, [], ◌∷◌, ◌++◌, length, map, take, drop, get_or, None, Some, nat_le, arith, refl, ◌∙◌, sym, ap, ◌⊎◌, inl, inr}
 use Rattle.std.specs.List.{list_all}
 use Rattle.std.proofs.lemmas.List.{at_drop_more, at_drop_all, length-map, take_more}
 use Rattle.std.proofs.lemmas.List.Folds.{list_all-map}
-use Rattle.toml.specs.Data.{Data, Items, no_items, item}
+use Rattle.toml.specs.Data.{Data}
 use Rattle.toml.specs.View.{view, items_of as as_items, items_view}
 use Rattle.toml.specs.declared.value.Value.{Value}
 use Rattle.accounts_file.specs.declared.key.Key.{Key}

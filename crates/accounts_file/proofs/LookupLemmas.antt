@@ -1,12 +1,12 @@
 -- Accounts that are told apart by their names and tokens.
-use Rattle.std.proofs.Common.{◌≡◌, ℕ, zero, suc, ◌+◌, ◌<◌, ◌≤◌, Bool, true, false, not, ◌&&◌, ◌||◌, cond, List, [], ◌∷◌, length, map, ltb, lt-ltb, ltb-true, bytes_eq, nat_eq, eqb, Option, None, Some, position, slice_get, arith, refl, ◌∙◌, sym, ap, inl, inr}
+use Rattle.std.proofs.Common.{◌≡◌, ℕ, zero, suc, ◌+◌, ◌<◌, Bool, true, false, not, ◌&&◌, ◌||◌, cond, List, [], ◌∷◌, length, map, ltb, lt-ltb, ltb-true, bytes_eq, nat_eq, None, Some, position, slice_get, arith, refl, ◌∙◌, sym, ap, inl, inr}
 use Rattle.std.specs.List.{list_any, position_or_len}
 use Rattle.std.proofs.lemmas.Bool.{and_parts, cases_Bool}
 use Rattle.std.proofs.lemmas.Bool.Decides.{nat_tests}
 use Rattle.std.proofs.lemmas.Slice.Eq.{bytes_eq-Decides}
 use Rattle.quota_roots.specs.Setups.{are_different}
 use Rattle.accounts_file.specs.declared.entry.AccountEntry.{AccountEntry}
-use Rattle.accounts_file.specs.Hosts.{AreAccounts, AreToldApart, holder, is_secret_of, logged_in, named}
+use Rattle.accounts_file.specs.Hosts.{AreAccounts, AreToldApart, is_secret_of}
 
 or_later : (b c : Bool) → c ≡ true → (b || c) ≡ true
 or_later true c h = refl

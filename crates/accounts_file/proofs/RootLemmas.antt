@@ -1,8 +1,7 @@
 -- Quota roots that are right in their places.
-use Rattle.std.proofs.Common.{◌≡◌, ℕ, zero, suc, ◌+◌, ◌<◌, ◌≤◌, Bool, true, false, not, ◌&&◌, cond, List, [], ◌∷◌, ◌++◌, length, get_or, ltb, Option, None, Some, arith, refl, ◌∙◌, sym, ap, inl, inr, le-ltb}
+use Rattle.std.proofs.Common.{◌≡◌, ℕ, suc, ◌+◌, ◌<◌, Bool, true, not, ◌&&◌, cond, List, [], ◌∷◌, ◌++◌, length, ltb, None, Some, arith, refl, ◌∙◌, sym, ap, le-ltb}
 use Rattle.std.specs.List.{enumerate_from, position_or_len}
-use Rattle.std.proofs.lemmas.Bool.{and_parts, cases_Bool}
-use Rattle.std.proofs.lemmas.List.FromFn.{length-enumerate_from}
+use Rattle.std.proofs.lemmas.Bool.{and_parts}
 use Rattle.quota_roots.specs.declared.root.RootSpec.{RootSpec}
 use Rattle.quota_roots.specs.RootLists.{first_bad_name, first_double, is_root_at, AreRoots}
 use Rattle.quota_roots.specs.declared.roots.RootsError.{RootsError}

@@ -1,10 +1,9 @@
 -- What texts that may stand at their keys are.
-use Rattle.std.proofs.Common.{◌≡◌, ℕ, suc, ◌+◌, ◌≤◌, Bool, true, false, not, ◌&&◌, cond, List, [], ◌∷◌, ◌++◌, length, map, take, drop, codes, bytes_eq, nat_eq, ltb, ltb-false, lt-ltb, le-ltb, Option, None, Some, is_some, unwrap_or, option_map, position, arith, refl, ◌∙◌, sym, ap, inl, inr}
+use Rattle.std.proofs.Common.{◌≡◌, ℕ, suc, ◌+◌, ◌≤◌, Bool, true, false, not, ◌&&◌, cond, List, [], ◌∷◌, length, map, codes, bytes_eq, nat_eq, ltb, ltb-false, lt-ltb, le-ltb, Option, None, Some, is_some, unwrap_or, option_map, position, arith, refl, ◌∙◌, sym, ap, inl, inr}
 use Rattle.std.specs.List.{list_all, position_or_len, remove}
 use Rattle.std.specs.Option.{option_and_then}
 use Rattle.std.specs.Str.{str_eq_ignore_ascii_case}
 use Rattle.std.proofs.lemmas.Bool.{and_parts, cases_Bool}
-use Rattle.std.proofs.lemmas.List.{take_all}
 use Rattle.quota_roots.specs.MailboxNames.{canonical}
 use Rattle.quota_roots.specs.RootLists.{is_prefix_at, is_root_name}
 use Rattle.quota_roots.specs.Setups.{is_mailbox}

@@ -1,7 +1,6 @@
 -- An account, as its table gives it.
-use Rattle.std.specs.Prelude.{◌≡◌, ◌≤◌, ℕ, Bool, true, List, [], ◌∷◌, length, map, codes, bytes_eq, slice_get, Option, None, Some, unwrap_or, if◌then◌else◌}
+use Rattle.std.specs.Prelude.{◌≡◌, ◌≤◌, ℕ, true, List, [], ◌∷◌, length, map, codes, bytes_eq, slice_get, Option, None, Some, unwrap_or, if◌then◌else◌}
 use Rattle.std.specs.List.{list_all}
-use Rattle.std.specs.Option.{option_map}
 use Rattle.toml.specs.Data.{Data, Members, as_table}
 use Rattle.quota_roots.specs.Setups.{is_mailbox}
 use Rattle.accounts_file.specs.declared.key.Key.TheVariants.{Account, AccountName, Password, Token, Admin, Journal, Recipients, Mailboxes}

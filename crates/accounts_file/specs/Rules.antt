@@ -1,11 +1,11 @@
 -- What may stand at a key of an accounts file. The ranges are this project's own.
-use Rattle.std.specs.Prelude.{ℕ, ℤ, pos, negsuc, Bool, true, false, not, ◌&&◌, ◌||◌, List, length, codes, nat_eq, nat_le, bytes_eq, Option, None, Some, if◌then◌else◌}
-use Rattle.std.specs.List.{list_all, list_any, starts_with}
+use Rattle.std.specs.Prelude.{ℕ, Bool, false, not, ◌&&◌, ◌||◌, List, length, codes, nat_eq, nat_le, bytes_eq}
+use Rattle.std.specs.List.{list_all, starts_with}
 use Rattle.std.specs.Char.{is_ascii_alphanumeric}
 use Rattle.quota_roots.specs.MailboxNames.{canonical, is_mailbox_name}
 use Rattle.quota_roots.specs.RootLists.{is_root_name}
 use Rattle.accounts_file.specs.declared.key.Key.{Key}
-use Rattle.accounts_file.specs.declared.key.Key.TheVariants.{Imap, Jmap, Policy, Workers, Account, AccountName, Password, Token, Admin, Journal, Recipients, Mailboxes, Root, RootName, Prefix, Storage, Messages}
+use Rattle.accounts_file.specs.declared.key.Key.TheVariants.{Workers, AccountName, Password, Token, Journal, Recipients, Mailboxes, RootName, Prefix, Storage, Messages}
 
 -- a byte of a JMAP Id (RFC 8620, section 1.2): a letter, a digit, `-` or `_`
 abbrev pub is_id_byte : ℕ → Bool

@@ -1,4 +1,4 @@
-use Rattle.std.proofs.Common.{◌≡◌, ◌∙◌, sym, ap, length, None, rules, arith}
+use Rattle.std.proofs.Common.{◌≡◌, ◌∙◌, sym, ap, length, None}
 use Rattle.quota_roots.specs.Setups.{AreMailboxes}
 use Rattle.accounts_file.specs.Doubles.{repeated}
 use Rattle.accounts_file.proofs.DoubleLemmas.{double_none, different_names}
