@@ -1,0 +1,132 @@
+-- Names that stand twice.
+use Rattle.std.proofs.Common.{◌≡◌, ℕ, ◌+◌, ◌<◌, ◌≤◌, Bool, true, false, not, ◌||◌, cond, List, [], ◌∷◌, ◌++◌, length, map, take, drop, get_or, bytes_eq, Option, None, Some, arith, refl, ◌∙◌, sym, ap, inl, inr, append_assoc, ◌⊎◌, subst}
+use Rattle.std.specs.List.{list_any, list_all}
+use Rattle.std.proofs.lemmas.List.Folds.{list_any-append}
+use Rattle.std.proofs.lemmas.Slice.Eq.{bytes_eq-Decides}
+use Rattle.std.proofs.lemmas.Bool.Decides.{same_from_decides}
+use Rattle.std.proofs.lemmas.Bool.{and_parts}
+use Rattle.std.proofs.lemmas.List.{at_drop_more, at_drop_all, take_more, append-nil}
+use Rattle.quota_roots.specs.Setups.{are_different}
+use Rattle.accounts_file.specs.declared.entry.AccountEntry.{AccountEntry}
+use Rattle.accounts_file.specs.declared.error.AccountsError.{AccountsError}
+use Rattle.accounts_file.specs.Doubles.{all_recipients, doubles_refusal, first_repeat, has_same, own_double, repeated, repeated_in_any_case}
+use Rattle.accounts_file.specs.Hosts.{AreDifferent}
+use Rattle.accounts_file.specs.Refusals.{double, first_in}
+use Rattle.accounts_file.specs.declared.error.AccountsError.TheVariants.{NoMemory}
+
+repeat_more : (same : List ℕ → List ℕ → Bool) (names : List (List ℕ)) (at : ℕ) (d : List ℕ) → at < length names
+    → first_repeat same (take at names) (drop at names)
+    ≡ cond (has_same same (take at names) (get_or names at d)) (Some (get_or names at d)) (first_repeat same (take (at + 1) names) (drop (at + 1) names))
+repeat_more same names at d within =
+    at_drop_more (first_repeat same (take at names)) names at d within
+    ∙ ap (λ seen. cond (has_same same (take at names) (get_or names at d)) (Some (get_or names at d)) (first_repeat same seen (drop (at + 1) names))) (sym (take_more names at d within))
+
+-- of the names before this place none stands twice
+abbrev pub IsSoFar : (List ℕ → List ℕ → Bool) → List (List ℕ) → ℕ → Type 0
+IsSoFar same names at = first_repeat same (take at names) (drop at names) ≡ first_repeat same [] names
+
+pub repeat_here : (same : List ℕ → List ℕ → Bool) (names : List (List ℕ)) (at : ℕ) (d : List ℕ) → at < length names → IsSoFar same names at → has_same same (take at names) (get_or names at d) ≡ true
+    → first_repeat same [] names ≡ Some (get_or names at d)
+repeat_here same names at d within far here =
+    sym far ∙ repeat_more same names at d within ∙ ap (λ b. cond b (Some (get_or names at d)) (first_repeat same (take (at + 1) names) (drop (at + 1) names))) here
+
+pub repeat_on : (same : List ℕ → List ℕ → Bool) (names : List (List ℕ)) (at : ℕ) (d : List ℕ) → at < length names → IsSoFar same names at → has_same same (take at names) (get_or names at d) ≡ false → IsSoFar same names (at + 1)
+repeat_on same names at d within far here =
+    sym (sym far ∙ repeat_more same names at d within ∙ ap (λ b. cond b (Some (get_or names at d)) (first_repeat same (take (at + 1) names) (drop (at + 1) names))) here)
+
+pub repeat_nowhere : (same : List ℕ → List ℕ → Bool) (names : List (List ℕ)) → IsSoFar same names (length names) → first_repeat same [] names ≡ None
+repeat_nowhere same names far =
+    let all : length names ≤ length names = omega arith in
+    sym far ∙ at_drop_all (first_repeat same (take (length names) names)) names (length names) all
+
+recipients_push : (accounts : List AccountEntry) (account : AccountEntry) → all_recipients (accounts ++ account ∷ []) ≡ all_recipients accounts ++ account.recipients
+recipients_push [] account = append-nil account.recipients
+recipients_push (first ∷ accounts) account = ap (λ r. first.recipients ++ r) (recipients_push accounts account) ∙ sym (append_assoc first.recipients (all_recipients accounts) account.recipients)
+
+pub recipients_more : (accounts : List AccountEntry) (at : ℕ) (d : AccountEntry) → at < length accounts
+    → all_recipients (take (at + 1) accounts) ≡ all_recipients (take at accounts) ++ (get_or accounts at d).recipients
+recipients_more accounts at d within = ap all_recipients (take_more accounts at d within) ∙ recipients_push (take at accounts) (get_or accounts at d)
+
+bytes_eq_sym : (xs ys : List ℕ) → bytes_eq xs ys ≡ bytes_eq ys xs
+bytes_eq_sym xs ys = same_from_decides (bytes_eq xs ys) (bytes_eq ys xs) (bytes_eq-Decides xs ys) ((λ e. sym ((bytes_eq-Decides ys xs).0 e)), (λ e. (bytes_eq-Decides ys xs).1 (sym e)))
+
+abbrev unseen : List (List ℕ) → List ℕ → Bool
+unseen seen name = not (list_any (λ other. bytes_eq other name) seen)
+
+unseen_push : (before here : Bool) → not (before || (here || false)) ≡ true → (before ≡ false) × (here ≡ false)
+unseen_push true here h = absurd (cc)
+unseen_push false true h = absurd (cc)
+unseen_push false false h = (refl, refl)
+
+parted : (seen names : List (List ℕ)) (name : List ℕ) → list_all (unseen (seen ++ name ∷ [])) names ≡ true
+    → (list_all (unseen seen) names ≡ true) × (list_any (λ other. bytes_eq other name) names ≡ false)
+parted seen [] name all = (refl, refl)
+parted seen (first ∷ names) name all =
+    let (here, more) = and_parts (unseen (seen ++ name ∷ []) first) (list_all (unseen (seen ++ name ∷ [])) names) all in
+    let (before, same) = unseen_push (list_any (λ other. bytes_eq other first) seen) (bytes_eq name first) (rw (list_any-append (λ other. bytes_eq other first) seen (name ∷ [])) at here) in
+    let (old, new) = parted seen names name more in
+    (rw before old, rw (bytes_eq_sym first name, same) new)
+
+not_found : (b : Bool) (name : List ℕ) (rest : Option (List ℕ)) → cond b (Some name) rest ≡ None → (b ≡ false) × (rest ≡ None)
+not_found true name rest h = absurd (cc)
+not_found false name rest h = (refl, h)
+
+different : (seen names : List (List ℕ)) → first_repeat bytes_eq seen names ≡ None → (are_different names ≡ true) × (list_all (unseen seen) names ≡ true)
+different seen [] none = (refl, refl)
+different seen (name ∷ names) none =
+    let (here, rest) = not_found (list_any (λ other. bytes_eq other name) seen) name (first_repeat bytes_eq (seen ++ name ∷ []) names) none in
+    let (apart, all) = different (seen ++ name ∷ []) names rest in
+    let (old, new) = parted seen names name all in
+    (rw new apart, rw here old)
+
+-- names of which none stood before are different
+pub different_names : (names : List (List ℕ)) → repeated names ≡ None → are_different names ≡ true
+different_names names none = (different [] names none).0
+
+first_none : (refusal : Option AccountsError) (rest : List (Option AccountsError)) → first_in (refusal ∷ rest) ≡ None → (refusal ≡ None) × (first_in rest ≡ None)
+first_none None rest h = (refl, h)
+first_none (Some e) rest h = absurd (cc)
+
+-- an account that is refused, behind others that are not
+pub double_found : (done : List AccountEntry) (account : AccountEntry) (rest : List AccountEntry) (e : AccountsError) → first_in (map own_double done) ≡ None → own_double account ≡ Some e
+    → first_in (map own_double (done ++ account ∷ rest)) ≡ Some e
+double_found [] account rest e none here = ap (λ o. first_in (o ∷ map own_double rest)) here
+double_found (first ∷ done) account rest e none here =
+    let (one, more) = first_none (own_double first) (map own_double done) none in
+    ap (λ o. first_in (o ∷ map own_double (done ++ account ∷ rest))) one ∙ double_found done account rest e more here
+
+pub double_more : (done : List AccountEntry) (account : AccountEntry) → first_in (map own_double done) ≡ None → own_double account ≡ None → first_in (map own_double (done ++ account ∷ [])) ≡ None
+double_more [] account none here = ap (λ o. first_in (o ∷ [])) here
+double_more (first ∷ done) account none here =
+    let (one, more) = first_none (own_double first) (map own_double done) none in
+    ap (λ o. first_in (o ∷ map own_double (done ++ account ∷ []))) one ∙ double_more done account more here
+
+pub double_none : (name : Option (List ℕ)) → double name ≡ None → name ≡ None
+double_none None h = refl
+double_none (Some name) h = absurd (cc)
+
+found_or_memory : (done : List AccountEntry) (account : AccountEntry) (rest : List AccountEntry) (e : AccountsError) → first_in (map own_double done) ≡ None
+    → (e ≡ NoMemory) ⊎ (own_double account ≡ Some e) → (e ≡ NoMemory) ⊎ (first_in (map own_double (done ++ account ∷ rest)) ≡ Some e)
+found_or_memory done account rest e none told = elim told [
+  | inl memory ↦ inl memory
+  | inr here ↦ inr (double_found done account rest e none here)
+]
+
+-- accounts of which one was refused, behind others that were not, or for which there was no memory
+pub double_told : (accounts done : List AccountEntry) (account : AccountEntry) (rest : List AccountEntry) (e : AccountsError) → first_in (map own_double done) ≡ None
+    → done ++ account ∷ rest ≡ accounts → (e ≡ NoMemory) ⊎ (own_double account ≡ Some e) → (e ≡ NoMemory) ⊎ (first_in (map own_double accounts) ≡ Some e)
+double_told accounts done account rest e none all told =
+    subst (λ (l : List AccountEntry). (e ≡ NoMemory) ⊎ (first_in (map own_double l) ≡ Some e)) all (found_or_memory done account rest e none told)
+
+-- accounts of which none is refused are different
+pub no_double : (accounts : List AccountEntry) → doubles_refusal accounts ≡ None → AreDifferent accounts
+no_double accounts none =
+    let names = map (λ (account : AccountEntry). account.name) accounts in
+    let tokens = map (λ (account : AccountEntry). account.token) accounts in
+    let more = double (repeated_in_any_case (all_recipients accounts)) ∷ first_in (map own_double accounts) ∷ [] in
+    let by_name = first_none (double (repeated names)) (double (repeated tokens) ∷ more) none in
+    let by_token = first_none (double (repeated tokens)) more by_name.1 in
+    record {
+      names = different_names names (double_none (repeated names) by_name.0);
+      tokens = different_names tokens (double_none (repeated tokens) by_token.0);
+    }

@@ -1,0 +1,46 @@
+-- Names that stand twice in an accounts file.
+use Rattle.std.specs.Prelude.{ℕ, Bool, List, [], ◌∷◌, ◌++◌, map, bytes_eq, Option, None, Some, if◌then◌else◌}
+use Rattle.std.specs.List.{list_any}
+use Rattle.std.specs.Option.{option_map}
+use Rattle.std.specs.Str.{str_eq_ignore_ascii_case}
+use Rattle.quota_roots.specs.declared.root.RootSpec.{RootSpec}
+use Rattle.quota_roots.specs.RootLists.{first_double, name_at}
+use Rattle.accounts_file.specs.declared.entry.AccountEntry.{AccountEntry}
+use Rattle.accounts_file.specs.declared.error.AccountsError.{AccountsError}
+use Rattle.accounts_file.specs.Refusals.{first_in, double}
+
+-- one of the names is the same as this one
+abbrev pub has_same : (List ℕ → List ℕ → Bool) → List (List ℕ) → List ℕ → Bool
+has_same same names name = list_any (λ other. same other name) names
+
+-- the first of the names that is the same as one before it, or as one of those that were seen before
+abbrev pub first_repeat : (List ℕ → List ℕ → Bool) → List (List ℕ) → List (List ℕ) → Option (List ℕ)
+first_repeat same seen [] = None
+first_repeat same seen (name ∷ names) = if has_same same seen name then Some name else first_repeat same (seen ++ name ∷ []) names
+
+-- the first of the names that stood before
+abbrev pub repeated : List (List ℕ) → Option (List ℕ)
+repeated names = first_repeat bytes_eq [] names
+
+-- the same, where the case of ASCII letters plays no part
+abbrev pub repeated_in_any_case : List (List ℕ) → Option (List ℕ)
+repeated_in_any_case names = first_repeat str_eq_ignore_ascii_case [] names
+
+-- the name of the first root whose name stood before
+abbrev pub repeated_root : List RootSpec → Option (List ℕ)
+repeated_root roots = option_map (name_at roots) (first_double roots)
+
+-- what is refused of an account's mailboxes and its roots
+abbrev pub own_double : AccountEntry → Option AccountsError
+own_double account = first_in (double (repeated account.setup.mailboxes) ∷ double (repeated_root account.setup.roots) ∷ [])
+
+-- all recipients, in the order of the accounts
+abbrev pub all_recipients : List AccountEntry → List (List ℕ)
+all_recipients [] = []
+all_recipients (account ∷ accounts) = account.recipients ++ all_recipients accounts
+
+-- what is refused of the accounts beside one another, and then of each
+abbrev pub doubles_refusal : List AccountEntry → Option AccountsError
+doubles_refusal accounts =
+    first_in (double (repeated (map (λ account. account.name) accounts)) ∷ double (repeated (map (λ account. account.token) accounts))
+    ∷ double (repeated_in_any_case (all_recipients accounts)) ∷ first_in (map own_double accounts) ∷ [])

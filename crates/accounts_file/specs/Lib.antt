@@ -1,0 +1,9 @@
+pub mod Keys
+pub mod Refusals
+pub mod Rules
+pub mod Values
+pub mod RootTables
+pub mod Accounts
+pub mod Doubles
+pub mod Hosts
+pub mod Files

@@ -1,0 +1,218 @@
+ghost use Rattle.std.specs.Prelude.{◌≡◌, ◌<◌, ◌++◌, ◌⊎◌, bytes_eq, length, map, None, Some, All, IfOk, IfErr, IfSome, OnOk};
+ghost use Rattle.std.specs.Option.{option_map};
+ghost use Rattle.std.specs.Str.{str_eq_ignore_ascii_case};
+ghost use Rattle.quota_roots.specs.RootLists.{first_double, has_name};
+ghost use Rattle.quota_roots.specs.Setups.{IsSound};
+ghost use Rattle.accounts_file.specs.Doubles.{all_recipients, doubles_refusal, has_same, own_double, repeated, repeated_in_any_case, repeated_root};
+ghost use Rattle.accounts_file.specs.Hosts.{AreDifferent};
+ghost use Rattle.accounts_file.specs.Refusals.{double, first_in, Checks, Reads};
+
+use crate::draft::Draft;
+use crate::entry::AccountEntry;
+use crate::error::AccountsError;
+use crate::roots::roots_of;
+use crate::values::name_of;
+use quota_roots::{LimitsList, RootSpec, Setup};
+use quota_units::Name;
+use std::alloc::Global;
+
+fn has(names: &[Name], name: &Name) -> bool
+    ensures { result ≡ has_same bytes_eq names.now name.now }
+{
+    let bytes = name.as_slice();
+    names.iter().any(|other| other.as_slice() == bytes)
+}
+
+fn has_in_any_case(names: &[Name], name: &Name) -> bool
+    ensures { result ≡ has_same str_eq_ignore_ascii_case names.now name.now }
+{
+    let bytes = name.as_slice();
+    names
+        .iter()
+        .any(|other| other.as_slice().eq_ignore_ascii_case(bytes))
+}
+
+/// The first of the names that stood before.
+#[tactic(auto, using(crate::proofs::DoubleLemmas::repeat_here, crate::proofs::DoubleLemmas::repeat_on, crate::proofs::DoubleLemmas::repeat_nowhere))]
+fn repeated(names: &[Name]) -> Option<&Name>
+    ensures { option_map (λ name. name.now) result ≡ repeated names.now }
+{
+    for (at, name) in names.iter().enumerate() {
+        if has(&names[..at], name) {
+            return Some(name);
+        }
+    }
+    None
+}
+
+/// The first of the names that stood before, in any ASCII case.
+#[tactic(auto, using(crate::proofs::DoubleLemmas::repeat_here, crate::proofs::DoubleLemmas::repeat_on, crate::proofs::DoubleLemmas::repeat_nowhere))]
+fn repeated_in_any_case(names: &[Name]) -> Option<&Name>
+    ensures { option_map (λ name. name.now) result ≡ repeated_in_any_case names.now }
+{
+    for (at, name) in names.iter().enumerate() {
+        if has_in_any_case(&names[..at], name) {
+            return Some(name);
+        }
+    }
+    None
+}
+
+/// The refusal of a name that stands twice.
+fn double_of(alloc: Global, name: &Name) -> AccountsError
+    ensures { (result ≡ AccountsError.NoMemory) ⊎ (result ≡ AccountsError.Double name.now) }
+{
+    match name_of(alloc, name.as_slice()) {
+        Ok(name) => AccountsError::Double { name },
+        Err(_) => AccountsError::NoMemory,
+    }
+}
+
+/// Refuses names of which one stands twice.
+fn check_names(alloc: Global, names: &[Name]) -> Result<(), AccountsError>
+    ensures { Checks (double (repeated names.now)) result }
+{
+    match repeated(names) {
+        None => Ok(()),
+        Some(name) => Err(double_of(alloc, name)),
+    }
+}
+
+/// Refuses addresses of which one stands twice.
+fn check_recipients(alloc: Global, addresses: &[Name]) -> Result<(), AccountsError>
+    ensures { Checks (double (repeated_in_any_case addresses.now)) result }
+{
+    match repeated_in_any_case(addresses) {
+        None => Ok(()),
+        Some(address) => Err(double_of(alloc, address)),
+    }
+}
+
+fn has_root(specs: &[RootSpec], name: &[u8]) -> bool
+    ensures { result ≡ has_name specs.now name.now }
+{
+    specs.iter().any(|spec| spec.name.as_slice() == name)
+}
+
+/// The place of the first root whose name stood before.
+#[tactic(auto, using(quota_roots::proofs::ListLemmas::double_here, quota_roots::proofs::ListLemmas::double_nowhere))]
+fn first_double(specs: &[RootSpec]) -> Option<usize>
+    ensures value { result ≡ first_double specs.now }
+    ensures within { IfSome result (λ at. at < length specs.now) }
+{
+    for (at, spec) in specs.iter().enumerate() {
+        if has_root(&specs[..at], spec.name.as_slice()) {
+            return Some(at);
+        }
+    }
+    None
+}
+
+/// Refuses roots of which one has the name of one before it.
+fn check_roots(alloc: Global, specs: &[RootSpec]) -> Result<(), AccountsError>
+    ensures refused { Checks (double (repeated_root specs.now)) result }
+    ensures different { OnOk result (first_double specs.now ≡ None) }
+{
+    match first_double(specs) {
+        None => Ok(()),
+        Some(at) => Err(double_of(alloc, &specs[at].name)),
+    }
+}
+
+/// The account, where none of its mailboxes and none of its roots stands twice.
+fn entry_of(alloc: Global, draft: Draft) -> Result<AccountEntry, AccountsError>
+    ensures reads { Reads (own_double draft) draft result }
+    ensures sound { IfOk result (λ entry. IsSound entry.setup) }
+{
+    check_names(alloc, draft.mailboxes.as_slice())?;
+    check_roots(alloc, &draft.specs)?;
+    let roots = roots_of(draft.specs);
+    Ok(AccountEntry {
+        name: draft.name,
+        password: draft.password,
+        token: draft.token,
+        admin: draft.admin,
+        recipients: draft.recipients,
+        setup: Setup {
+            roots,
+            limits: LimitsList::new(draft.limits),
+            mailboxes: draft.mailboxes,
+            journal: draft.journal,
+        },
+    })
+}
+
+/// The accounts, where none has a mailbox or a root twice.
+fn entries_of(alloc: Global, drafts: Vec<Draft>) -> Result<Vec<AccountEntry>, AccountsError>
+    ensures ok { IfOk result (λ entries. (first_in (map own_double drafts.items) ≡ None) × (entries.items ≡ drafts.items)) }
+    ensures sound { IfOk result (λ entries. All (λ entry. IsSound entry.setup) entries.items) }
+    ensures err { IfErr result (λ e. (e ≡ AccountsError.NoMemory) ⊎ (first_in (map own_double drafts.items) ≡ Some e)) }
+{
+    let mut entries = Vec::new(alloc);
+    for draft in drafts {
+        entries.push(entry_of(alloc, draft)?)?;
+    }
+    Ok(entries)
+}
+
+/// Adds copies of the names at the end of others.
+fn copy_names(alloc: Global, names: &[Name], to: &mut Vec<Name>) -> Result<(), AccountsError>
+    ensures ok { OnOk result (to.new.items ≡ to.old.items ++ names.now) }
+    ensures err { IfErr result (λ e. e ≡ AccountsError.NoMemory) }
+{
+    for name in names {
+        to.push(name_of(alloc, name.as_slice())?)?;
+    }
+    Ok(())
+}
+
+fn all_names(alloc: Global, drafts: &[Draft]) -> Result<Vec<Name>, AccountsError>
+    ensures ok { IfOk result (λ names. names.items ≡ map (λ account. account.name) drafts.now) }
+    ensures err { IfErr result (λ e. e ≡ AccountsError.NoMemory) }
+{
+    let mut names = Vec::new(alloc);
+    for draft in drafts {
+        names.push(name_of(alloc, draft.name.as_slice())?)?;
+    }
+    Ok(names)
+}
+
+fn all_tokens(alloc: Global, drafts: &[Draft]) -> Result<Vec<Name>, AccountsError>
+    ensures ok { IfOk result (λ names. names.items ≡ map (λ account. account.token) drafts.now) }
+    ensures err { IfErr result (λ e. e ≡ AccountsError.NoMemory) }
+{
+    let mut names = Vec::new(alloc);
+    for draft in drafts {
+        names.push(name_of(alloc, draft.token.as_slice())?)?;
+    }
+    Ok(names)
+}
+
+#[tactic(auto, using(crate::proofs::DoubleLemmas::recipients_more))]
+fn all_recipients(alloc: Global, drafts: &[Draft]) -> Result<Vec<Name>, AccountsError>
+    ensures ok { IfOk result (λ names. names.items ≡ all_recipients drafts.now) }
+    ensures err { IfErr result (λ e. e ≡ AccountsError.NoMemory) }
+{
+    let mut names = Vec::new(alloc);
+    for draft in drafts {
+        copy_names(alloc, draft.recipients.as_slice(), &mut names)?;
+    }
+    Ok(names)
+}
+
+/// The accounts, where no name, token, recipient, mailbox or root stands twice.
+#[tactic(auto, using(crate::proofs::DoubleLemmas::no_double))]
+pub(crate) fn different_accounts(
+    alloc: Global,
+    drafts: Vec<Draft>,
+) -> Result<Vec<AccountEntry>, AccountsError>
+    ensures ok { IfOk result (λ entries. (doubles_refusal drafts.items ≡ None) × (entries.items ≡ drafts.items)) }
+    ensures sound { IfOk result (λ entries. All (λ entry. IsSound entry.setup) entries.items) }
+    ensures different { IfOk result (λ entries. AreDifferent entries.items) }
+    ensures err { IfErr result (λ e. (e ≡ AccountsError.NoMemory) ⊎ (doubles_refusal drafts.items ≡ Some e)) }
+{
+    check_names(alloc, &all_names(alloc, &drafts)?)?;
+    check_names(alloc, &all_tokens(alloc, &drafts)?)?;
+    check_recipients(alloc, &all_recipients(alloc, &drafts)?)?;
+    entries_of(alloc, drafts)
+}
