@@ -2,3 +2,4 @@ pub mod Account
 pub mod Machine
 pub mod History
 pub mod Plain
+pub mod Delivering

@@ -1,5 +1,5 @@
 -- Keepers that are taken out and put back by their place.
-use Rattle.std.proofs.Common.{◌≡◌, ℕ, ◌+◌, ◌<◌, ◌≤◌, Bool, true, false, not, cond, List, [], ◌∷◌, length, get_or, set, ltb, Option, Some, None, arith, refl, ◌∙◌, sym, ap, suc, position, bytes_eq}
+use Rattle.std.proofs.Common.{◌≡◌, ℕ, ◌+◌, ◌<◌, Bool, true, false, not, cond, List, [], ◌∷◌, length, get_or, set, ltb, Option, Some, None, arith, refl, ◌∙◌, sym, ap, suc, position, bytes_eq}
 use Rattle.std.specs.List.{position_or_len}
 use Rattle.std.proofs.lemmas.List.{set_past, get_or_past, get_or_default}
 use Rattle.keeper.specs.Accounts.{keeper_in, with_keeper}

@@ -1,5 +1,5 @@
 -- The first place at which a test passes, by the number of those before it.
-use Rattle.std.proofs.Common.{◌≡◌, ℕ, ◌≤◌, Bool, true, false, cond, ltb, Option, Some, None, arith, refl, ltb-false}
+use Rattle.std.proofs.Common.{◌≡◌, ℕ, ◌≤◌, Bool, true, false, cond, ltb, Some, None, refl, ltb-false}
 
 pub place_is : (b : Bool) (n at : ℕ) → Some at ≡ cond b (Some n) None → at ≡ n
 place_is true n at h = cc

@@ -1,5 +1,5 @@
 -- Entries that are dropped.
-use Rattle.std.proofs.Common.{◌≡◌, ℕ, ◌<◌, ◌+◌, ◌≤◌, Bool, true, false, not, ◌||◌, cond, List, [], ◌∷◌, length, filter, arith, refl, suc}
+use Rattle.std.proofs.Common.{◌≡◌, ◌<◌, ◌≤◌, Bool, true, false, not, ◌||◌, cond, List, [], ◌∷◌, length, filter, arith}
 use Rattle.std.specs.List.{list_any}
 
 fewer_step : {X : Type 0} (b : Bool) (x : X) (xs kept : List X) → length kept ≤ length xs → length (cond (not b) (x ∷ kept) kept) ≤ length (x ∷ xs)

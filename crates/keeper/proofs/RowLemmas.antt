@@ -1,5 +1,5 @@
 -- Rows that are removed and renamed by their place, and the files of a mailbox.
-use Rattle.std.proofs.Common.{◌≡◌, ℕ, ◌+◌, ◌<◌, ◌≤◌, Bool, true, false, not, cond, List, [], ◌∷◌, ◌++◌, length, take, drop, get_or, set, map, filter, ltb, Option, Some, None, arith, refl, ◌∙◌, sym, ap, suc, ltb-false, position}
+use Rattle.std.proofs.Common.{◌≡◌, ℕ, ◌+◌, ◌≤◌, Bool, true, false, not, cond, List, [], ◌∷◌, ◌++◌, length, drop, get_or, set, ltb, Some, None, arith, refl, ◌∙◌, sym, ap, suc, position}
 use Rattle.std.proofs.lemmas.List.{take_all, append-nil, set_past}
 use Rattle.std.proofs.Math.ListN.{drop_of_length-le}
 use Rattle.std.specs.List.{position_or_len, remove}

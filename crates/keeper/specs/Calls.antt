@@ -1,8 +1,8 @@
 -- The calls of a keeper, by their result: what they answer, and what they do to what the keeper tells.
-use Rattle.std.specs.Prelude.{◌≡◌, ◌≢◌, ◌+◌, ◌≤◌, ◌<◌, ℕ, true, false, Vec, List, [], ◌∷◌, ◌++◌, length, Option, Some, None, Result, Ok, Err, ⊤}
+use Rattle.std.specs.Prelude.{◌≡◌, ◌≢◌, ◌+◌, ◌≤◌, ◌<◌, ℕ, Vec, List, [], ◌∷◌, ◌++◌, Option, Some, None, Result, Ok, Err, ⊤}
 use Rattle.std.specs.Option.{option_map}
 use Rattle.keeper.specs.declared.rows.FileRow.{FileRow}
-use Rattle.keeper.specs.Files.{Files, Row, listed, removed, renamed, ledger_at, ledger_bytes}
+use Rattle.keeper.specs.Files.{Files, listed, removed, renamed, ledger_at, ledger_bytes}
 
 -- what a keeper tells: its files, and how many failures of its calls may still come
 pub record Told : Type 0 where

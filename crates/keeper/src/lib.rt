@@ -20,7 +20,7 @@ pub use fixed::FixedKeeper;
 pub use keeper::Keeper;
 pub use mem_stores::MemStores;
 pub use memory::MemKeeper;
-pub use plan::{CallCounts, KeepCall, KeepFail};
+pub use plan::{KeepCall, KeepFail};
 pub use rows::{FileRow, StoreRow};
 pub use stores::Stores;
 

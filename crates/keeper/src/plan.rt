@@ -44,7 +44,7 @@ impl KeepFail {
 
 /// How many calls of each kind were made. Each count stands still at 2^64 - 1.
 #[derive(Clone, Copy, Debug, PartialEq, Eq)]
-pub struct CallCounts {
+pub(crate) struct CallCounts {
     pub list: u64,
     pub put: u64,
     pub rename: u64,

@@ -1,6 +1,6 @@
 ghost use Rattle.std.specs.Prelude.{◌≡◌, IfOk};
 
-use quota_units::{Limits, Name, NoMemory};
+use quota_units::{Limits, Name, NameError, NoMemory};
 use std::alloc::{AllocError, Global};
 use std::marker::Model;
 
@@ -101,9 +101,13 @@ fn copy_names(alloc: Global, names: &[Name]) -> Result<Vec<Name>, AllocError>
     Ok(copy)
 }
 
-/// An equal name. A name is never too long for one, so that only want of memory is left.
+/// An equal name.
 pub(crate) fn copy_name(alloc: Global, name: &Name) -> Result<Name, AllocError>
     ensures { IfOk result (λ copy. copy ≡ name.now) }
 {
-    Name::of(alloc, name.as_slice()).map_err(|_| AllocError)
+    match Name::of(alloc, name.as_slice()) {
+        Ok(copy) => Ok(copy),
+        Err(NameError::NoMemory) => Err(AllocError),
+        Err(NameError::TooLong { .. }) => unreachable!(),
+    }
 }

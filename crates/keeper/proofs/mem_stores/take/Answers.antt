@@ -1,4 +1,4 @@
-use Rattle.std.proofs.Common.{None, sym, ◌∙◌, ap, position, bytes_eq, length, ◌<◌, subst, rules}
+use Rattle.std.proofs.Common.{None, sym, ◌∙◌, ap, position, bytes_eq, length, ◌<◌, rules}
 use Rattle.keeper.proofs.AccountLemmas.{with_nowhere, in_nowhere, in_at}
 use Rattle.keeper.proofs.mem_stores.take.Goals as goal
 

@@ -1,4 +1,4 @@
-use Rattle.std.proofs.Common.{rules, ◌≡◌, ◌∙◌, not, ap, subst, length, filter, ◌<◌, List, sym}
+use Rattle.std.proofs.Common.{rules, ◌≡◌, not, filter}
 use Rattle.std.proofs.lemmas.Fn.{filter_same}
 use Rattle.keeper.specs.declared.plan.KeepFail.{KeepFail}
 use Rattle.keeper.specs.Plan.{names}
