@@ -1,3 +1,4 @@
 pub mod Replaying
 pub mod Logging
 pub mod DeliveredLemmas
+pub mod Admitting

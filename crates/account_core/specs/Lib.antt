@@ -1,5 +1,6 @@
 pub mod Account
+pub mod Delivering
 pub mod Machine
 pub mod History
+pub mod Legality
 pub mod Plain
-pub mod Delivering

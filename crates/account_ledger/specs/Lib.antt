@@ -1,0 +1,8 @@
+pub mod Messages
+pub mod Scans
+pub mod Ledgers
+pub mod Settling
+pub mod Opening
+pub mod States
+pub mod Order
+pub mod Serving
