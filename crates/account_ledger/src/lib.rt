@@ -1,13 +1,8 @@
-// A library with one function.
+//! An account over a keeper: its files, its ledgers and its history are kept in step.
 #![tactic(auto)]
 
-ghost use Rattle.std.specs.Prelude.{◌≡◌};
-ghost use Rattle.account_ledger.specs.Echo.{echo_of};
+mod book;
+mod scan;
+mod settle;
 
-// The `ensures` clause is the contract: what `echo` returns is `echo_of` of its argument, a definition
-// in `specs/Echo.antt`, which a caller's clause can cite too.
-pub fn echo(x: usize) -> usize
-    ensures { result ≡ echo_of x }
-{
-    x
-}
+pub use book::Standing;
