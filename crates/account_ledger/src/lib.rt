@@ -4,5 +4,7 @@
 mod book;
 mod scan;
 mod settle;
+mod state;
 
 pub use book::Standing;
+pub use state::AccountState;

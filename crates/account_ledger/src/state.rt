@@ -1,0 +1,84 @@
+// The state of an account.
+ghost use Rattle.std.specs.Prelude.{◌≡◌, ◌<◌, length};
+ghost use Rattle.keeper.specs.Causes.{HasCause};
+ghost use Rattle.account_ledger.specs.Order.{IsInOrder};
+ghost use Rattle.account_ledger.specs.States.{State, standing_at};
+
+use crate::book::{Book, Standing};
+use account_core::Entry;
+use keeper::Keeper;
+use quota_roots::Setup;
+use quota_units::Limits;
+use std::marker::Model;
+use std::snapshot::Snapshot;
+
+/// An account over a keeper: its files, the ledgers of its quota roots, and the history of its calls.
+///
+/// Contracts see what the keeper tells and counts, what the account was opened with, the history and the standings of the roots.
+#[derive(Drop)]
+pub struct AccountState<K: Keeper> {
+    keeper: K,
+    opened: Snapshot<K>,
+    setup: Setup,
+    epoch: u64,
+    limits: Vec<Limits>,
+    books: Vec<Book>,
+    deliveries: u64,
+    history: Vec<Entry>,
+}
+
+impl<K: Keeper> Model for AccountState<K> {
+    ghost use Rattle.account_ledger.specs.States.{State};
+    ghost use Rattle.account_ledger.specs.Settling.{standings_of};
+    ghost use Rattle.account_ledger.specs.Opening.{opening_of};
+    ghost use Rattle.account_ledger.specs.Order.{InOrder};
+
+    ghost Value = { State };
+
+    ghost view = { λ a. record {
+        told = K.told a.keeper;
+        faults = K.faults a.keeper;
+        append_faults = K.append_faults a.keeper;
+        lists = K.lists a.keeper;
+        setup = a.setup;
+        epoch = a.epoch;
+        opening = opening_of a.setup a.epoch (K.told a.opened.value);
+        first_faults = K.faults a.opened.value;
+        history = a.history.items;
+        standings = standings_of a.books.items
+    } };
+
+    ghost invariant = { λ a. InOrder (K.told a.opened.value) (K.told a.keeper) (K.faults a.opened.value) (K.faults a.keeper) a.setup a.epoch a.limits.items a.books.items a.deliveries a.history.items };
+}
+
+impl<K: Keeper> AccountState<K> {
+    /// How many calls the history has.
+    pub fn calls(&self) -> u32
+        ensures { result ≡ length self.now.history }
+    {
+        self.history.len() as u32
+    }
+
+    /// Whether the root of this number is settled.
+    pub fn standing(&self, root: u32) -> Standing
+        requires { root < length self.now.setup.roots }
+        ensures { result ≡ standing_at self.now.standings root }
+    {
+        self.books[root as usize].standing
+    }
+
+    /// The keeper, as the account leaves it.
+    pub fn into_keeper(self) -> K
+        ensures { self.told ≡ K.told result }
+    {
+        let AccountState { keeper, .. } = self;
+        keeper
+    }
+
+    /// The state is in order, between any two calls.
+    pub fn is_in_order(&self)
+        ensures { IsInOrder self.now }
+    {
+        let _ = &self.keeper;
+    }
+}
