@@ -6,3 +6,5 @@ pub mod Settling
 pub mod Opening
 pub mod States
 pub mod Order
+pub mod Faults
+pub mod Serving

@@ -2,6 +2,7 @@
 #![tactic(auto)]
 
 mod book;
+mod fault;
 mod scan;
 mod settle;
 mod state;

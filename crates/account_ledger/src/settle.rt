@@ -25,17 +25,17 @@ pub(crate) fn settle<K: Keeper>(
     keeper: &mut K,
     setup: &Setup,
     limits: &[Limits],
-    books: &mut [Book],
+    books: &mut Vec<Book>,
     root: u32,
 ) -> Result<(), KeepError>
     requires root { root < length setup.now.roots }
     requires limits { length limits.now ≡ length setup.now.roots }
-    requires books { length books.old ≡ length setup.now.roots }
-    requires small { All (λ book. AreSmall book.totals) books.old }
-    ensures files { Changes (OnFiles (Settling (nat_eq root) setup.now.roots limits.now setup.now.mailboxes books.old books.new)) (K.told keeper.old) (K.told keeper.new) }
-    ensures marks { Marks (nat_eq root) books.old books.new }
-    ensures small { All (λ book. AreSmall book.totals) books.new }
-    ensures settled { OnOk result ((book_at books.new root).standing ≡ Settled) }
+    requires books { length books.old.items ≡ length setup.now.roots }
+    requires small { All (λ book. AreSmall book.totals) books.old.items }
+    ensures files { Changes (OnFiles (Settling (nat_eq root) setup.now.roots limits.now setup.now.mailboxes books.old.items books.new.items)) (K.told keeper.old) (K.told keeper.new) }
+    ensures marks { Marks (nat_eq root) books.old.items books.new.items }
+    ensures small { All (λ book. AreSmall book.totals) books.new.items }
+    ensures settled { OnOk result ((book_at books.new.items root).standing ≡ Settled) }
     ensures cause { HasCause (IsErrOf result KeepError.Failed) (K.faults keeper.old) (K.faults keeper.new) }
     ensures appends { K.append_faults keeper.new ≡ K.append_faults keeper.old }
 {
@@ -67,16 +67,16 @@ pub(crate) fn settle_governing<K: Keeper>(
     keeper: &mut K,
     setup: &Setup,
     limits: &[Limits],
-    books: &mut [Book],
+    books: &mut Vec<Book>,
     mailbox: &[u8],
 ) -> Result<(), KeepError>
     requires limits { length limits.now ≡ length setup.now.roots }
-    requires books { length books.old ≡ length setup.now.roots }
-    requires small { All (λ book. AreSmall book.totals) books.old }
-    ensures files { Changes (OnFiles (Settling (λ root. governs_at setup.now.roots root mailbox.now) setup.now.roots limits.now setup.now.mailboxes books.old books.new)) (K.told keeper.old) (K.told keeper.new) }
-    ensures marks { Marks (λ root. governs_at setup.now.roots root mailbox.now) books.old books.new }
-    ensures small { All (λ book. AreSmall book.totals) books.new }
-    ensures settled { OnOk result ((root : ℕ) → governs_at setup.now.roots root mailbox.now ≡ true → (book_at books.new root).standing ≡ Settled) }
+    requires books { length books.old.items ≡ length setup.now.roots }
+    requires small { All (λ book. AreSmall book.totals) books.old.items }
+    ensures files { Changes (OnFiles (Settling (λ root. governs_at setup.now.roots root mailbox.now) setup.now.roots limits.now setup.now.mailboxes books.old.items books.new.items)) (K.told keeper.old) (K.told keeper.new) }
+    ensures marks { Marks (λ root. governs_at setup.now.roots root mailbox.now) books.old.items books.new.items }
+    ensures small { All (λ book. AreSmall book.totals) books.new.items }
+    ensures settled { OnOk result ((root : ℕ) → governs_at setup.now.roots root mailbox.now ≡ true → (book_at books.new.items root).standing ≡ Settled) }
     ensures cause { HasCause (IsErrOf result KeepError.Failed) (K.faults keeper.old) (K.faults keeper.new) }
     ensures appends { K.append_faults keeper.new ≡ K.append_faults keeper.old }
 {

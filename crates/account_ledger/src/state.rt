@@ -1,14 +1,19 @@
 // The state of an account.
-ghost use Rattle.std.specs.Prelude.{◌≡◌, ◌<◌, length};
+ghost use Rattle.std.specs.Prelude.{◌≡◌, ◌≢◌, ◌<◌, ℕ, length, nat_eq, IfOk, OnOk};
 ghost use Rattle.keeper.specs.Causes.{HasCause};
 ghost use Rattle.account_ledger.specs.Order.{IsInOrder};
-ghost use Rattle.account_ledger.specs.States.{State, standing_at};
+ghost use Rattle.account_ledger.specs.Serving.{Opened, OfAccount, SettlesSome};
+ghost use Rattle.account_ledger.specs.States.{State, standing_at, usage_at};
+ghost use Rattle.account_ledger.specs.declared.book.Standing.TheVariants.{Settled};
 
 use crate::book::{Book, Standing};
-use account_core::Entry;
+use crate::fault::step_error;
+use crate::settle::settle;
+use account_core::{Entry, StepError};
 use keeper::Keeper;
 use quota_roots::Setup;
-use quota_units::Limits;
+use quota_units::{Limits, Totals};
+use std::alloc::Global;
 use std::marker::Model;
 use std::snapshot::Snapshot;
 
@@ -65,6 +70,36 @@ impl<K: Keeper> AccountState<K> {
         ensures { result ≡ standing_at self.now.standings root }
     {
         self.books[root as usize].standing
+    }
+
+    /// Settles the root of this number where it is in doubt, and answers its usage. It is no entry of the history.
+    ///
+    /// # Errors
+    ///
+    /// `Store` where the store failed, and `NoMemory`. The root is as before then.
+    #[tactic(auto, using(crate::proofs::Keeping::order_settled))]
+    pub fn usage(&mut self, alloc: Global, root: u32) -> Result<Totals, StepError>
+        requires { root < length self.old.setup.roots }
+        ensures opened { Opened self.old self.new }
+        ensures history { self.new.history ≡ self.old.history }
+        ensures usage { IfOk result (λ totals. OfAccount self.old (λ account. totals ≡ usage_at self.old.setup.roots root account)) }
+        ensures settled { OnOk result (standing_at self.new.standings root ≡ Settled) }
+        ensures settles { SettlesSome (nat_eq root) self.old self.new }
+        ensures cause { HasCause (result ≡ Err StepError.Store) self.old.faults self.new.faults }
+        ensures never_full { (limit : ℕ) → result ≢ Err (StepError.JournalFull limit) }
+    {
+        let settled = settle(
+            alloc,
+            &mut self.keeper,
+            &self.setup,
+            &self.limits,
+            &mut self.books,
+            root,
+        );
+        if let Err(fault) = settled {
+            return Err(step_error(fault));
+        }
+        Ok(self.books[root as usize].totals)
     }
 
     /// The keeper, as the account leaves it.

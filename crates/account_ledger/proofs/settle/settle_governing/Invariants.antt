@@ -9,10 +9,10 @@ use Rattle.account_ledger.proofs.settle.settle_governing.Given as goal
 
 abbrev pub invariant-loop-root : goal.invariant-loop-root
 invariant-loop-root g l = record {
-  files : Changes (OnFiles (Settling (λ root. governs_at l.setup.roots root l.mailbox) l.setup.roots l.limits l.setup.mailboxes l.initial.books l.books)) (g.K.Keeper.told l.initial.keeper) (g.K.Keeper.told l.keeper);
-  marks : Marks (λ root. governs_at l.setup.roots root l.mailbox) l.initial.books l.books;
-  small : All (λ book. AreSmall book.totals) l.books;
-  settled : (root : ℕ) → root < l.root → governs_at l.setup.roots root l.mailbox ≡ true → (book_at l.books root).standing ≡ Settled;
+  files : Changes (OnFiles (Settling (λ root. governs_at l.setup.roots root l.mailbox) l.setup.roots l.limits l.setup.mailboxes l.initial.books.items l.books.items)) (g.K.Keeper.told l.initial.keeper) (g.K.Keeper.told l.keeper);
+  marks : Marks (λ root. governs_at l.setup.roots root l.mailbox) l.initial.books.items l.books.items;
+  small : All (λ book. AreSmall book.totals) l.books.items;
+  settled : (root : ℕ) → root < l.root → governs_at l.setup.roots root l.mailbox ≡ true → (book_at l.books.items root).standing ≡ Settled;
   faults : g.K.Keeper.faults l.keeper ≡ g.K.Keeper.faults l.initial.keeper;
   appends : g.K.Keeper.append_faults l.keeper ≡ g.K.Keeper.append_faults l.initial.keeper
 }
