@@ -5,3 +5,4 @@ pub mod Sums
 pub mod UsageLemmas
 pub mod Keeping
 pub mod Stating
+pub mod Replying

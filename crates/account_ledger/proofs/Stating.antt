@@ -1,5 +1,5 @@
 -- From what is kept to what clauses see.
-use Rattle.std.proofs.Common.{◌≡◌, ◌⊎◌, ℕ, ◌<◌, Bool, true, List, length, get_or, map, Option, Some, None, refl, sym, ap, ◌∙◌, inl, inr}
+use Rattle.std.proofs.Common.{◌≡◌, ◌⊎◌, ℕ, ◌<◌, Bool, true, List, length, get_or, map, Option, Some, None, refl, sym, ap, ◌∙◌, inl, inr, arith}
 use Rattle.std.specs.Prelude.{IfSome, ⊤}
 use Rattle.std.specs.Option.{option_map}
 use Rattle.std.proofs.Math.ListN.{get_or-map}
@@ -73,3 +73,14 @@ kept_totals then now faults_then faults setup epoch limits books deliveries hist
 -- what is read at a root's place
 pub read_totals : (books : List Book) (root : ℕ) (book : Book) → root < length books → book ≡ get_or books root book → book.totals ≡ (book_at books root).totals
 read_totals books root book inside read = ap (λ (b : Book). b.totals) (get_or_read books root book inside read no_book)
+
+-- the limits that are kept are the account's
+pub own_limits : (then now : Option Told) (faults_then faults : ℕ) (setup : Setup) (epoch : ℕ) (limits : List LimitNumbers) (books : List Book) (deliveries : ℕ) (history : List Entry) (root : ℕ) (own : LimitNumbers)
+    → InOrder then now faults_then faults setup epoch limits books deliveries history → root < length setup.roots → own ≡ get_or limits root own
+    → IfSome (option_map (λ opening. replay setup.roots opening history) (opening_of setup epoch then)) (λ account. (own ≡ limits_at account.limits root) × (length account.limits ≡ length setup.roots))
+own_limits then now faults_then faults setup epoch limits books deliveries history root own order inside read =
+    of_account then now faults_then faults setup epoch limits books deliveries history (λ account. (own ≡ limits_at account.limits root) × (length account.limits ≡ length setup.roots))
+    (λ account files holds. (
+      get_or_read limits root own (omega (arith, order.limits_each)) read (record { octets = None; count = None }) ∙ ap (λ ls. limits_at ls root) (sym holds.limits_are),
+      ap length holds.limits_are ∙ order.limits_each,
+    )) order

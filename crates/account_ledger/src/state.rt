@@ -1,5 +1,7 @@
 // The state of an account.
-ghost use Rattle.std.specs.Prelude.{◌≡◌, ◌≢◌, ◌<◌, ℕ, length, nat_eq, IfOk, OnOk};
+ghost use Rattle.std.specs.Prelude.{◌≡◌, ◌≢◌, ◌<◌, ℕ, length, nat_eq, IfOk, IfSome, OnOk};
+ghost use Rattle.quota_roots.specs.RootLists.{place_of};
+ghost use Rattle.admission.specs.Fitting.{limits_at};
 ghost use Rattle.keeper.specs.Causes.{HasCause};
 ghost use Rattle.account_ledger.specs.Order.{IsInOrder};
 ghost use Rattle.account_ledger.specs.Serving.{Opened, OfAccount, SettlesSome};
@@ -100,6 +102,23 @@ impl<K: Keeper> AccountState<K> {
             return Err(step_error(fault));
         }
         Ok(self.books[root as usize].totals)
+    }
+
+    /// The number of the root of this name.
+    fn find_root(&self, name: &[u8]) -> Option<u32>
+        ensures place { result ≡ place_of self.now.setup.roots name.now }
+        ensures inside { IfSome result (λ root. root < length self.now.setup.roots) }
+    {
+        self.setup.roots.find(name)
+    }
+
+    /// The limits of the root of this number.
+    #[tactic(auto, using(crate::proofs::Stating::own_limits))]
+    fn limits_of(&self, root: u32) -> Limits
+        requires { root < length self.now.setup.roots }
+        ensures { OfAccount self.now (λ account. (result ≡ limits_at account.limits root) × (length account.limits ≡ length self.now.setup.roots)) }
+    {
+        self.limits[root as usize]
     }
 
     /// The keeper, as the account leaves it.
