@@ -4,5 +4,6 @@ pub mod SettleLemmas
 pub mod Sums
 pub mod UsageLemmas
 pub mod Keeping
-pub mod Stating
 pub mod Replying
+pub mod Stating
+pub mod Answering

@@ -22,7 +22,15 @@ use Rattle.admission.specs.Fitting.{limits_at}
 use Rattle.account_ledger.specs.States.{standing_at, usage_at}
 use Rattle.account_ledger.specs.Order.{Holds, InOrder}
 use Rattle.account_ledger.specs.Serving.{SettlesLedgers, IsSettledNow}
+use Rattle.std.specs.List.{range_with_len}
+use Rattle.quota_roots.specs.Governing.{governs_at, governing}
+use Rattle.admission.specs.Fitting.{first_over, totals_at}
+use Rattle.account_core.specs.Machine.{governing_rows, usages, over_in}
+use Rattle.account_core.proofs.Admitting.{totals_at-usages}
+use Rattle.account_ledger.specs.Rows.{kept_row, kept_rows, totals_of}
 use Rattle.account_ledger.proofs.Changing.{changes_weaken}
+use Rattle.account_ledger.proofs.SettleLemmas.{governed_inside}
+use Rattle.account_ledger.proofs.Replying.{no_root, row_at, map_where, governing_rows_are, first_over_where}
 
 pub standing_of : (books : List Book) (root : ℕ) → standing_at (standings_of books) root ≡ (book_at books root).standing
 standing_of books root = get_or-map (λ (b : Book). b.standing) books root no_book
@@ -84,3 +92,45 @@ own_limits then now faults_then faults setup epoch limits books deliveries histo
       get_or_read limits root own (omega (arith, order.limits_each)) read (record { octets = None; count = None }) ∙ ap (λ ls. limits_at ls root) (sym holds.limits_are),
       ap length holds.limits_are ∙ order.limits_each,
     )) order
+
+module _ (then now : Option Told) (faults_then faults : ℕ) (setup : Setup) (epoch : ℕ) (limits : List LimitNumbers) (books : List Book) (deliveries : ℕ) (history : List Entry) (mailbox : List ℕ)
+    (order : InOrder then now faults_then faults setup epoch limits books deliveries history)
+    (settled : (root : ℕ) → governs_at setup.roots root mailbox ≡ true → standing_at (standings_of books) root ≡ Settled) where
+  totals_here : (account : Account) (files : Files) → Holds setup limits books deliveries (length history) account files → (root : ℕ) → governs_at setup.roots root mailbox ≡ true
+      → (book_at books root).totals ≡ usage_at setup.roots root account
+  totals_here account files holds root governed =
+      (holds.kept root (governed_inside setup.roots mailbox root governed) (sym (standing_of books root) ∙ settled root governed)).totals
+
+  totals_at_of : (bs : List Book) (root : ℕ) → totals_at (totals_of bs) root ≡ (book_at bs root).totals
+  totals_at_of bs root = get_or-map (λ (b : Book). b.totals) bs root no_book
+
+  row_here : (account : Account) (files : Files) → Holds setup limits books deliveries (length history) account files → (root : ℕ) → governs_at setup.roots root mailbox ≡ true
+      → kept_row limits books root ≡ row_at setup.roots account.limits account root
+  row_here account files holds root governed =
+      let inside = governed_inside setup.roots mailbox root governed in
+      let used = totals_here account files holds root governed ∙ totals_at-usages setup.roots account root no_root inside in
+      rw (used, holds.limits_are) refl
+
+  -- the rows that are kept are the machine's
+  pub rows_are : IfSome (option_map (λ opening. replay setup.roots opening history) (opening_of setup epoch then)) (λ account. kept_rows setup.roots limits books mailbox ≡ governing_rows setup.roots account mailbox)
+  rows_are =
+      of_account then now faults_then faults setup epoch limits books deliveries history (λ account. kept_rows setup.roots limits books mailbox ≡ governing_rows setup.roots account mailbox)
+      (λ account files holds.
+        map_where (kept_row limits books) (row_at setup.roots account.limits account) (λ root. governs_at setup.roots root mailbox) (row_here account files holds) (range_with_len 0 (length setup.roots))
+        ∙ sym (governing_rows_are setup.roots account mailbox (ap length holds.limits_are ∙ order.limits_each))) order
+
+  -- and so is the first root over
+  pub over_is : (octets : ℕ) → IfSome (option_map (λ opening. replay setup.roots opening history) (opening_of setup epoch then))
+      (λ account. first_over limits (totals_of books) (governing setup.roots mailbox) octets ≡ over_in setup.roots account mailbox octets)
+  over_is octets =
+      of_account then now faults_then faults setup epoch limits books deliveries history (λ account. first_over limits (totals_of books) (governing setup.roots mailbox) octets ≡ over_in setup.roots account mailbox octets)
+      (λ account files holds.
+        first_over_where setup.roots mailbox limits (totals_of books) (usages setup.roots account) octets (λ root governed. totals_at_of books root ∙ totals_here account files holds root governed)
+        ∙ ap (λ ls. first_over ls (usages setup.roots account) (governing setup.roots mailbox) octets) (sym holds.limits_are)) order
+
+pub limits_each : (then now : Option Told) (faults_then faults : ℕ) (setup : Setup) (epoch : ℕ) (limits : List LimitNumbers) (books : List Book) (deliveries : ℕ) (history : List Entry)
+    → InOrder then now faults_then faults setup epoch limits books deliveries history
+    → IfSome (option_map (λ opening. replay setup.roots opening history) (opening_of setup epoch then)) (λ account. length account.limits ≡ length setup.roots)
+limits_each then now faults_then faults setup epoch limits books deliveries history order =
+    of_account then now faults_then faults setup epoch limits books deliveries history (λ account. length account.limits ≡ length setup.roots)
+    (λ account files holds. ap length holds.limits_are ∙ order.limits_each) order

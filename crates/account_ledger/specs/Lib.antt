@@ -5,6 +5,7 @@ pub mod Ledgers
 pub mod Settling
 pub mod Opening
 pub mod States
+pub mod Rows
 pub mod Order
 pub mod Faults
 pub mod Serving

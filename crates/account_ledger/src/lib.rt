@@ -3,6 +3,7 @@
 
 mod book;
 mod fault;
+mod rows;
 mod scan;
 mod settle;
 mod state;

@@ -12,7 +12,7 @@ use quota_units::Totals;
 use std::alloc::Global;
 
 /// What totals are cut at. No account that tells its files comes so far.
-const MOST: u64 = 4611686018427387903;
+pub(crate) const MOST: u64 = 4611686018427387903;
 
 /// The sum, cut.
 pub(crate) fn cut_sum(totals: Totals, more: Totals) -> Totals
