@@ -7,3 +7,4 @@ pub mod Keeping
 pub mod Replying
 pub mod Stating
 pub mod Answering
+pub mod Entering

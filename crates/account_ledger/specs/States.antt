@@ -26,8 +26,9 @@ pub record State : Type 0 where
   pub opening : Option Account
   -- the faults, other than those of appends, that the keeper had counted then
   pub first_faults : ℕ
-  -- the entries since
+  -- the entries since, and for how many entries memory is held
   pub history : List Entry
+  pub reserved : ℕ
   -- of each root
   pub standings : List Standing
 

@@ -1,14 +1,15 @@
 // The state of an account.
-ghost use Rattle.std.specs.Prelude.{◌≡◌, ◌≢◌, ◌<◌, ◌^◌, ℕ, true, length, nat_eq, codes, IfOk, IfSome, OnOk};
+ghost use Rattle.std.specs.Prelude.{◌≡◌, ◌≢◌, ◌<◌, ◌≤◌, ◌+◌, ◌-◌, ◌^◌, ◌↔◌, ◌++◌, ◌∷◌, [], min, ℕ, true, IsTrue, length, nat_eq, codes, IfOk, IfSome, OnOk};
 ghost use Rattle.quota_roots.specs.RootLists.{place_of};
 ghost use Rattle.admission.specs.Fitting.{limits_at};
 ghost use Rattle.quota_roots.specs.Governing.{governs_at};
 ghost use Rattle.account_core.specs.Machine.{governing_rows, over_in, reply_of};
-ghost use Rattle.account_core.specs.declared.calls.Call.{Call};
 ghost use Rattle.account_ledger.specs.Rows.{IsVerdict};
 ghost use Rattle.keeper.specs.Causes.{HasCause};
 ghost use Rattle.account_ledger.specs.Order.{IsInOrder};
-ghost use Rattle.account_ledger.specs.Serving.{Opened, OfAccount, SettlesSome, is_place};
+ghost use Rattle.account_ledger.specs.Serving.{Opened, OfAccount, SettlesSome, Enters, IsQuestion, Leaves, is_place, needs};
+ghost use Rattle.account_core.specs.Legality.{MayBeServed, fault_count};
+ghost use Rattle.account_core.specs.History.{entry_of};
 ghost use Rattle.account_ledger.specs.States.{State, standing_at, usage_at};
 ghost use Rattle.account_ledger.specs.declared.book.Standing.TheVariants.{Settled};
 
@@ -17,7 +18,7 @@ use crate::fault::{check_reply, step_error};
 use crate::rows::{are_limits, rows_of, totals_of};
 use crate::scan::MOST;
 use crate::settle::{settle, settle_governing};
-use account_core::{Entry, Reply, RootRow, RootRows, StepError};
+use account_core::{Call, Entry, Reply, RootRow, RootRows, StepError};
 use admission::{Verdict, admit};
 use keeper::Keeper;
 use quota_roots::Setup;
@@ -42,6 +43,7 @@ pub struct AccountState<K: Keeper> {
 }
 
 impl<K: Keeper> Model for AccountState<K> {
+    ghost use Rattle.std.specs.Prelude.{vec_capacity};
     ghost use Rattle.account_ledger.specs.States.{State};
     ghost use Rattle.account_ledger.specs.Settling.{standings_of};
     ghost use Rattle.account_ledger.specs.Opening.{opening_of};
@@ -59,6 +61,7 @@ impl<K: Keeper> Model for AccountState<K> {
         opening = opening_of a.setup a.epoch (K.told a.opened.value);
         first_faults = K.faults a.opened.value;
         history = a.history.items;
+        reserved = vec_capacity a.history;
         standings = standings_of a.books.items
     } };
 
@@ -81,6 +84,117 @@ impl<K: Keeper> AccountState<K> {
         self.books[root as usize].standing
     }
 
+    /// Serves a call of this caller: a check, or a question on the quota of a root or on the roots of a mailbox.
+    ///
+    /// `bytes` are the octets of a delivered message, and empty for these calls.
+    ///
+    /// # Errors
+    ///
+    /// `JournalFull` exactly where the history holds as many entries as the setup's journal allows; nothing changes then.
+    /// `Store` only where the store failed in this call; the entry has fault then. `NoMemory`: there is no entry.
+    /// After each error a root that was settled still is.
+    #[tactic(auto, using(crate::proofs::Entering::question_leaves, crate::proofs::Entering::question_served, crate::proofs::Entering::excused_more))]
+    pub fn serve(
+        &mut self,
+        alloc: Global,
+        caller: u32,
+        call: Call,
+        bytes: &[u8],
+    ) -> Result<Reply, StepError>
+        requires question { IsQuestion call }
+        requires bytes { bytes.now ≡ [] }
+        ensures opened { Opened self.old self.new }
+        ensures enters { Enters caller call result self.old.history self.new.history }
+        ensures reply { IfOk result (λ given. OfAccount self.old (λ account. given ≡ reply_of self.old.setup.roots account call)) }
+        ensures settled { OnOk result ((root : ℕ) → needs self.old.setup.roots call root ≡ true → standing_at self.new.standings root ≡ Settled) }
+        ensures settles { SettlesSome (needs self.old.setup.roots call) self.old self.new }
+        ensures cause { HasCause (result ≡ Err StepError.Store) self.old.faults self.new.faults }
+        ensures full { (limit : ℕ) → (result ≡ Err (StepError.JournalFull limit)) ↔ ((length self.old.history ≡ self.old.setup.journal) × (limit ≡ self.old.setup.journal)) }
+        ensures unchanged { (limit : ℕ) → result ≡ Err (StepError.JournalFull limit) → self.new ≡ self.old }
+        ensures order { IsInOrder self.new }
+    {
+        self.is_in_order();
+        if self.is_full() {
+            return Err(StepError::JournalFull {
+                limit: self.journal(),
+            });
+        }
+        self.reserve_entry()?;
+        let answer = self.answer(alloc, &call);
+        self.is_in_order();
+        match answer {
+            Ok(reply) => {
+                self.note(caller, call, false);
+                self.is_in_order();
+                Ok(reply)
+            }
+            Err(StepError::Store) => {
+                self.note(caller, call, true);
+                self.is_in_order();
+                Err(StepError::Store)
+            }
+            Err(fault) => Err(fault),
+        }
+    }
+
+    /// The most entries of the history.
+    fn journal(&self) -> u32
+        ensures { result ≡ self.now.setup.journal }
+    {
+        self.setup.journal
+    }
+
+    /// Whether the history holds as many entries as it may.
+    fn is_full(&self) -> bool
+        ensures { IsTrue result ↔ (length self.now.history ≡ self.now.setup.journal) }
+    {
+        self.history.len() >= self.setup.journal as usize
+    }
+
+    /// Holds memory for one more entry.
+    fn reserve_entry(&mut self) -> Result<(), AllocError>
+        ensures ok { OnOk result (length self.old.history < self.new.reserved) }
+        ensures same { self.new ≡ record self.old { reserved = self.new.reserved } }
+    {
+        self.history.reserve(1)
+    }
+
+    /// Enters a call that leaves the account. It takes no memory.
+    fn note(&mut self, caller: u32, call: Call, fault: bool)
+        requires room { length self.old.history < self.old.setup.journal }
+        requires held { length self.old.history < self.old.reserved }
+        requires served { MayBeServed call }
+        requires leaves { Leaves self.old.setup.roots call fault }
+        requires excused { min (self.old.first_faults + fault_count (self.old.history ++ entry_of caller call fault ∷ [])) (2 ^ 64 - 1) ≤ self.old.faults }
+        ensures { self.new ≡ record self.old { history = self.old.history ++ entry_of caller call fault ∷ [] } }
+    {
+        self.history.push_reserved(Entry {
+            caller,
+            call,
+            fault,
+        });
+    }
+
+    /// What a question is answered.
+    fn answer(&mut self, alloc: Global, call: &Call) -> Result<Reply, StepError>
+        requires { IsQuestion call.now }
+        ensures opened { Opened self.old self.new }
+        ensures history { self.new.history ≡ self.old.history }
+        ensures reserved { self.new.reserved ≡ self.old.reserved }
+        ensures reply { IfOk result (λ given. OfAccount self.old (λ account. given ≡ reply_of self.old.setup.roots account call.now)) }
+        ensures settled { OnOk result ((root : ℕ) → needs self.old.setup.roots call.now root ≡ true → standing_at self.new.standings root ≡ Settled) }
+        ensures settles { SettlesSome (needs self.old.setup.roots call.now) self.old self.new }
+        ensures cause { HasCause (result ≡ Err StepError.Store) self.old.faults self.new.faults }
+        ensures never_full { (limit : ℕ) → result ≢ Err (StepError.JournalFull limit) }
+    {
+        match call {
+            Call::Quota { root } => self.quota(alloc, root.as_slice()),
+            Call::Roots { mailbox } => self.roots(alloc, mailbox.as_slice()),
+            Call::Check { octets } => self.check(alloc, *octets),
+            Call::Deliver { .. } | Call::SetLimits { .. } => unreachable!(),
+        }
+    }
+
     /// Settles the root of this number where it is in doubt, and answers its usage. It is no entry of the history.
     ///
     /// # Errors
@@ -91,6 +205,7 @@ impl<K: Keeper> AccountState<K> {
         requires { root < length self.old.setup.roots }
         ensures opened { Opened self.old self.new }
         ensures history { self.new.history ≡ self.old.history }
+        ensures reserved { self.new.reserved ≡ self.old.reserved }
         ensures usage { IfOk result (λ totals. OfAccount self.old (λ account. totals ≡ usage_at self.old.setup.roots root account)) }
         ensures settled { OnOk result (standing_at self.new.standings root ≡ Settled) }
         ensures settles { SettlesSome (nat_eq root) self.old self.new }
@@ -115,6 +230,7 @@ impl<K: Keeper> AccountState<K> {
     fn settle_mailbox(&mut self, alloc: Global, mailbox: &[u8]) -> Result<(), StepError>
         ensures opened { Opened self.old self.new }
         ensures history { self.new.history ≡ self.old.history }
+        ensures reserved { self.new.reserved ≡ self.old.reserved }
         ensures settled { OnOk result ((root : ℕ) → governs_at self.old.setup.roots root mailbox.now ≡ true → standing_at self.new.standings root ≡ Settled) }
         ensures settles { SettlesSome (λ root. governs_at self.old.setup.roots root mailbox.now) self.old self.new }
         ensures cause { HasCause (result ≡ Err StepError.Store) self.old.faults self.new.faults }
@@ -170,6 +286,7 @@ impl<K: Keeper> AccountState<K> {
     fn quota(&mut self, alloc: Global, name: &[u8]) -> Result<Reply, StepError>
         ensures opened { Opened self.old self.new }
         ensures history { self.new.history ≡ self.old.history }
+        ensures reserved { self.new.reserved ≡ self.old.reserved }
         ensures reply { IfOk result (λ given. OfAccount self.old (λ account. given ≡ reply_of self.old.setup.roots account (Call.Quota name.now))) }
         ensures settled { OnOk result ((root : ℕ) → is_place (place_of self.old.setup.roots name.now) root ≡ true → standing_at self.new.standings root ≡ Settled) }
         ensures settles { SettlesSome (is_place (place_of self.old.setup.roots name.now)) self.old self.new }
@@ -194,6 +311,7 @@ impl<K: Keeper> AccountState<K> {
     fn roots(&mut self, alloc: Global, mailbox: &[u8]) -> Result<Reply, StepError>
         ensures opened { Opened self.old self.new }
         ensures history { self.new.history ≡ self.old.history }
+        ensures reserved { self.new.reserved ≡ self.old.reserved }
         ensures reply { IfOk result (λ given. OfAccount self.old (λ account. given ≡ reply_of self.old.setup.roots account (Call.Roots mailbox.now))) }
         ensures settled { OnOk result ((root : ℕ) → governs_at self.old.setup.roots root mailbox.now ≡ true → standing_at self.new.standings root ≡ Settled) }
         ensures settles { SettlesSome (λ root. governs_at self.old.setup.roots root mailbox.now) self.old self.new }
@@ -210,6 +328,7 @@ impl<K: Keeper> AccountState<K> {
     fn check(&mut self, alloc: Global, octets: u64) -> Result<Reply, StepError>
         ensures opened { Opened self.old self.new }
         ensures history { self.new.history ≡ self.old.history }
+        ensures reserved { self.new.reserved ≡ self.old.reserved }
         ensures reply { IfOk result (λ given. OfAccount self.old (λ account. given ≡ reply_of self.old.setup.roots account (Call.Check octets))) }
         ensures settled { OnOk result ((root : ℕ) → governs_at self.old.setup.roots root (codes "INBOX") ≡ true → standing_at self.new.standings root ≡ Settled) }
         ensures settles { SettlesSome (λ root. governs_at self.old.setup.roots root (codes "INBOX")) self.old self.new }
