@@ -8,3 +8,5 @@ pub mod Replying
 pub mod Stating
 pub mod Answering
 pub mod Entering
+pub mod OpenLemmas
+pub mod Opened

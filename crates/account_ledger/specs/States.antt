@@ -1,5 +1,5 @@
 -- An account's state as clauses see it.
-use Rattle.std.specs.Prelude.{ℕ, List, slice_index_or, Option}
+use Rattle.std.specs.Prelude.{◌≡◌, ℕ, List, [], slice_index_or, Option}
 use Rattle.std.specs.Option.{option_map}
 use Rattle.quota_units.specs.declared.totals.Totals.{Totals}
 use Rattle.quota_roots.specs.declared.root.RootSpec.{RootSpec}
@@ -10,6 +10,7 @@ use Rattle.account_core.specs.declared.calls.Entry.{Entry}
 use Rattle.account_core.specs.Account.{Account}
 use Rattle.account_core.specs.Machine.{usages}
 use Rattle.account_core.specs.History.{replay}
+use Rattle.account_ledger.specs.Opening.{opening_of}
 use Rattle.account_ledger.specs.declared.book.Standing.{Standing}
 use Rattle.account_ledger.specs.declared.book.Standing.TheVariants.{Doubt}
 
@@ -42,3 +43,13 @@ standing_at standings root = slice_index_or standings root Doubt
 -- the usage of the root of this number
 abbrev pub usage_at : List RootSpec → ℕ → Account → Totals
 usage_at roots root account = totals_at (usages roots account) root
+
+-- an account that was just opened, where the keeper told this and had counted so many faults
+pub record IsOpened (told : Option Told) (faults : ℕ) (setup : Setup) (epoch : ℕ) (s : State) : Type 0 where
+  pub setup_is : s.setup ≡ setup
+  pub epoch_is : s.epoch ≡ epoch
+  pub opening : s.opening ≡ opening_of setup epoch told
+  pub history : s.history ≡ []
+  pub doubt : (root : ℕ) → standing_at s.standings root ≡ Doubt
+  pub first_faults : s.first_faults ≡ faults
+  pub faults_are : s.faults ≡ faults

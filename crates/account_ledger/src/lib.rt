@@ -3,10 +3,12 @@
 
 mod book;
 mod fault;
+mod open;
 mod rows;
 mod scan;
 mod settle;
 mod state;
 
 pub use book::Standing;
+pub use open::{OpenError, OpenFault};
 pub use state::AccountState;

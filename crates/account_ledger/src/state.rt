@@ -1,5 +1,5 @@
 // The state of an account.
-ghost use Rattle.std.specs.Prelude.{◌≡◌, ◌≢◌, ◌<◌, ◌≤◌, ◌+◌, ◌-◌, ◌^◌, ◌↔◌, ◌++◌, ◌∷◌, [], min, ℕ, true, IsTrue, length, nat_eq, codes, IfOk, IfSome, OnOk};
+ghost use Rattle.std.specs.Prelude.{◌≡◌, ◌≢◌, ◌<◌, ◌≤◌, ◌+◌, ◌-◌, ◌^◌, ◌↔◌, ◌++◌, ◌∷◌, [], min, ℕ, true, IsTrue, length, nat_eq, codes, IfOk, IfErr, IfSome, OnOk};
 ghost use Rattle.quota_roots.specs.RootLists.{place_of};
 ghost use Rattle.admission.specs.Fitting.{limits_at};
 ghost use Rattle.quota_roots.specs.Governing.{governs_at};
@@ -10,11 +10,16 @@ ghost use Rattle.account_ledger.specs.Order.{IsInOrder};
 ghost use Rattle.account_ledger.specs.Serving.{Opened, OfAccount, SettlesSome, Enters, IsQuestion, Leaves, is_place, needs};
 ghost use Rattle.account_core.specs.Legality.{MayBeServed, fault_count};
 ghost use Rattle.account_core.specs.History.{entry_of};
-ghost use Rattle.account_ledger.specs.States.{State, standing_at, usage_at};
+ghost use Rattle.keeper.specs.Calls.{Changes};
+ghost use Rattle.quota_roots.specs.Setups.{IsSound};
+ghost use Rattle.account_ledger.specs.Opening.{IsRefused, MayOpen};
+ghost use Rattle.account_ledger.specs.Settling.{OnFiles};
+ghost use Rattle.account_ledger.specs.States.{IsOpened, standing_at, usage_at};
 ghost use Rattle.account_ledger.specs.declared.book.Standing.TheVariants.{Settled};
 
 use crate::book::{Book, Standing};
 use crate::fault::{check_reply, step_error};
+use crate::open::{OpenError, OpenFault, admit_files, doubtful};
 use crate::rows::{are_limits, rows_of, totals_of};
 use crate::scan::MOST;
 use crate::settle::{settle, settle_governing};
@@ -69,6 +74,57 @@ impl<K: Keeper> Model for AccountState<K> {
 }
 
 impl<K: Keeper> AccountState<K> {
+    /// Opens the account that the keeper's files tell. Its history is empty, and each of its roots is in doubt.
+    ///
+    /// All mailboxes are listed, then the files are looked at, and then the ledgers are read.
+    ///
+    /// # Errors
+    ///
+    /// `Store` where the store failed; `TooManyMessages` above 1048576 files in the mailboxes; `DoubleName` at the first file
+    /// whose base another file of its mailbox has; `EpochUsed` at the first whose base begins with the epoch and a dot and ends
+    /// with `.quotad`; and `NoMemory`. The keeper comes back, with its files as they were.
+    pub fn open(
+        alloc: Global,
+        keeper: K,
+        setup: Setup,
+        epoch: u64,
+    ) -> Result<AccountState<K>, OpenFault<K>>
+        requires { IsSound setup }
+        ensures opened { IfOk result (λ state. IsOpened (K.told keeper) (K.faults keeper) setup epoch state) }
+        ensures admitted { IfOk result (λ state. Changes (OnFiles (MayOpen setup epoch)) (K.told keeper) state.told) }
+        ensures order { IfOk result IsInOrder }
+        ensures refused { IfErr result (λ fault. Changes (OnFiles (IsRefused setup epoch fault.cause)) (K.told keeper) (K.told fault.keeper)) }
+        ensures cause { IfErr result (λ fault. HasCause (fault.cause ≡ OpenError.Store) (K.faults keeper) (K.faults fault.keeper)) }
+    {
+        let mut keeper = keeper;
+        let opened = Snapshot::of(&keeper);
+        let books = match doubtful(alloc, setup.roots.count()) {
+            Ok(books) => books,
+            Err(_) => {
+                return Err(OpenFault {
+                    cause: OpenError::NoMemory,
+                    keeper,
+                });
+            }
+        };
+        let limits = match admit_files(alloc, &mut keeper, &setup, epoch) {
+            Ok(limits) => limits,
+            Err(cause) => return Err(OpenFault { cause, keeper }),
+        };
+        let state = AccountState {
+            keeper,
+            opened,
+            setup,
+            epoch,
+            limits,
+            books,
+            deliveries: 0,
+            history: Vec::new(alloc),
+        };
+        state.is_in_order();
+        Ok(state)
+    }
+
     /// How many calls the history has.
     pub fn calls(&self) -> u32
         ensures { result ≡ length self.now.history }
