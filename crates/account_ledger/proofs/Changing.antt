@@ -1,6 +1,5 @@
 -- Changes of what is told, one after another.
-use Rattle.std.proofs.Common.{◌≡◌, Option, Some, None, refl, ap, sym}
-use Rattle.std.specs.Prelude.{⊤}
+use Rattle.std.proofs.Common.{Option, Some, None}
 use Rattle.keeper.specs.Calls.{Changes}
 
 module _ {X : Type 0} where

@@ -1,18 +1,18 @@
 -- Entries that leave the account.
-use Rattle.std.proofs.Common.{◌≡◌, ◌≢◌, ℕ, ◌+◌, ◌*◌, ◌<◌, ◌≤◌, ◌-◌, ◌^◌, min, Bool, true, false, cond, List, [], ◌∷◌, ◌++◌, length, Option, Some, None, refl, sym, ap, ◌∙◌, subst, arith, sum_by}
+use Rattle.std.proofs.Common.{◌≡◌, ℕ, ◌+◌, ◌<◌, ◌≤◌, ◌-◌, ◌^◌, min, Bool, true, false, cond, List, [], ◌∷◌, ◌++◌, length, Option, refl, sym, ◌∙◌, subst, arith}
 use Rattle.std.proofs.lemmas.List.{length_push}
 use Rattle.std.proofs.lemmas.List.Sums.{sum_by_push}
 use Rattle.quota_units.specs.Limiting.{LimitNumbers}
 use Rattle.quota_roots.specs.declared.root.RootSpec.{RootSpec}
 use Rattle.quota_roots.specs.declared.setup.Setup.{Setup}
 use Rattle.keeper.specs.Files.{Files}
-use Rattle.keeper.specs.Calls.{Told, Changes}
+use Rattle.keeper.specs.Calls.{Told}
 use Rattle.keeper.specs.Causes.{Rose}
 use Rattle.account_core.specs.declared.calls.Call.{Call}
 use Rattle.account_core.specs.declared.calls.Call.TheVariants.{Deliver, Check, Quota, SetLimits, Roots}
 use Rattle.account_core.specs.declared.calls.Entry.{Entry}
 use Rattle.account_core.specs.Account.{Account}
-use Rattle.account_core.specs.History.{replay, entry_of, account_after}
+use Rattle.account_core.specs.History.{replay, entry_of}
 use Rattle.account_core.specs.Legality.{MayBeServed, AreServed, fault_count}
 use Rattle.account_core.proofs.Replaying.{replay_more}
 use Rattle.account_ledger.specs.declared.book.Book.{Book}
@@ -88,7 +88,7 @@ order_noted then now faults_then faults setup epoch limits books deliveries hist
       small = order.small;
       held = changes_weaken _ _
           (λ x y holds. subst (λ n. Holds setup limits books deliveries n (replay setup.roots (opening_account setup epoch x.files) (history ++ entry ∷ [])) y.files) (sym long)
-            (holds_noted setup limits books deliveries (length history) _ _ y.files
-            (replay_more setup.roots (opening_account setup epoch x.files) history entry ∙ leaves (replay setup.roots (opening_account setup epoch x.files) history)) holds))
+          (holds_noted setup limits books deliveries (length history) _ _ y.files
+          (replay_more setup.roots (opening_account setup epoch x.files) history entry ∙ leaves (replay setup.roots (opening_account setup epoch x.files) history)) holds))
           then now order.held;
     }

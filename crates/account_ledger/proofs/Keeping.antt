@@ -1,23 +1,22 @@
 -- What is kept stays in order.
-use Rattle.std.proofs.Common.{◌≡◌, ◌⊎◌, ℕ, ◌+◌, ◌<◌, ◌≤◌, ◌-◌, ◌^◌, min, Bool, true, List, [], ◌∷◌, length, Option, Some, refl, sym, ap, ◌∙◌, inl, inr, subst, arith, zero-add, pos, ◌+ℤ◌}
+use Rattle.std.proofs.Common.{◌≡◌, ℕ, ◌+◌, ◌<◌, ◌≤◌, ◌^◌, Bool, List, [], ◌∷◌, length, Option, Some, refl, sym, ap, ◌∙◌, inl, inr, subst, arith, zero-add, pos}
 use Rattle.std.specs.List.{All}
 use Rattle.quota_units.specs.Limiting.{LimitNumbers}
 use Rattle.quota_units.specs.declared.totals.Totals.{Totals}
 use Rattle.quota_roots.specs.declared.setup.Setup.{Setup}
-use Rattle.keeper.specs.Files.{Files, Row, ledger_at, ledger_bytes, bytes_of}
+use Rattle.keeper.specs.Files.{Files, ledger_at, ledger_bytes, bytes_of}
 use Rattle.keeper.specs.Calls.{Told, Changes}
 use Rattle.maildirsize.specs.Sums.{Pair, sum_of}
-use Rattle.maildirsize.specs.Written.{written_ledger}
 use Rattle.admission.specs.Fitting.{limits_at}
 use Rattle.account_core.specs.declared.calls.Entry.{Entry}
 use Rattle.account_core.specs.Account.{Account}
 use Rattle.account_core.specs.History.{replay}
 use Rattle.account_ledger.specs.declared.book.Book.{Book}
-use Rattle.account_ledger.specs.declared.book.Standing.TheVariants.{Settled, Doubt}
+use Rattle.account_ledger.specs.declared.book.Standing.TheVariants.{Settled}
 use Rattle.account_ledger.specs.Messages.{StandFor}
 use Rattle.account_ledger.specs.Scans.{AreSmall, scan}
-use Rattle.account_ledger.specs.Ledgers.{pair_of, folded, AreWritten, IsRight}
-use Rattle.account_ledger.specs.Settling.{OnFiles, book_at, folded_book, Stays, Settles, SettlesOrStays, Settling, Marks}
+use Rattle.account_ledger.specs.Ledgers.{pair_of, folded, IsRight}
+use Rattle.account_ledger.specs.Settling.{OnFiles, book_at, folded_book, SettlesOrStays, Settling, Marks}
 use Rattle.account_ledger.specs.Opening.{opening_account}
 use Rattle.account_ledger.specs.States.{usage_at}
 use Rattle.account_ledger.specs.Order.{IsKept, Holds, InOrder}

@@ -1,7 +1,6 @@
 -- First elements that pass, and the limits that ledgers tell.
-use Rattle.std.proofs.Common.{◌≡◌, ℕ, ◌+◌, ◌<◌, ◌≤◌, min, Bool, true, false, cond, nat_lt, List, [], ◌∷◌, ◌++◌, length, take, drop, get_or, map, find, Option, Some, None, is_some, Ok, refl, sym, ap, ◌∙◌, subst, arith}
+use Rattle.std.proofs.Common.{◌≡◌, ℕ, ◌+◌, ◌<◌, ◌≤◌, min, Bool, true, false, cond, nat_lt, List, [], ◌∷◌, ◌++◌, length, take, drop, get_or, find, Option, Some, None, is_some, Ok, refl, sym, ap, ◌∙◌, arith}
 use Rattle.std.specs.Prelude.{Vec}
-use Rattle.std.specs.List.{range_with_len}
 use Rattle.std.specs.Option.{option_map, option_or}
 use Rattle.std.proofs.lemmas.Bool.Decides.{nat_tests}
 use Rattle.std.proofs.lemmas.List.{drop_more, take_min, get_or_read}

@@ -1,6 +1,6 @@
 -- An account that was just opened is in order.
-use Rattle.std.proofs.Common.{◌≡◌, ◌≢◌, ◌⊎◌, ℕ, zero, suc, ◌+◌, ◌*◌, ◌<◌, ◌≤◌, ◌-◌, ◌^◌, min, Bool, true, false, not, cond, ◌&&◌, ◌||◌, nat_lt, nat_eq, eqb, List, [], ◌∷◌, ◌++◌, length, take, drop, map, find, codes, Option, Some, None, refl, sym, ap, ◌∙◌, subst, inl, inr, arith, sum_by, bytes_eq}
-use Rattle.std.specs.List.{flat_map, list_any, starts_with, ends_with, count_by, All}
+use Rattle.std.proofs.Common.{◌≡◌, ◌⊎◌, ℕ, ◌+◌, ◌*◌, ◌≤◌, ◌-◌, Bool, true, false, not, cond, ◌&&◌, ◌||◌, nat_lt, nat_eq, List, [], ◌∷◌, ◌++◌, length, take, map, find, codes, Option, Some, None, refl, sym, ap, ◌∙◌, subst, inl, inr, arith, sum_by, bytes_eq}
+use Rattle.std.specs.List.{list_any, starts_with, ends_with, All}
 use Rattle.std.specs.Cmp.Lexicographic.{pointwise}
 use Rattle.std.specs.Fmt.{decimal}
 use Rattle.std.specs.Option.{option_map, option_or}
@@ -17,7 +17,7 @@ use Rattle.keeper.specs.declared.rows.FileRow.{FileRow}
 use Rattle.message_names.specs.Messages.{octets_of}
 use Rattle.message_names.specs.Sizes.{size_or, size_named}
 use Rattle.message_names.specs.Parts.{unique_of}
-use Rattle.account_core.specs.Account.{Account, Message}
+use Rattle.account_core.specs.Account.{Message}
 use Rattle.account_core.specs.Delivering.{delivered_base}
 use Rattle.account_ledger.specs.declared.book.Book.{Book}
 use Rattle.account_ledger.specs.declared.book.Standing.TheVariants.{Settled, Doubt}
@@ -28,7 +28,7 @@ use Rattle.account_ledger.specs.Scans.{AreSmall}
 use Rattle.keeper.specs.Calls.{Told, Changes}
 use Rattle.account_ledger.specs.Order.{Holds, InOrder}
 use Rattle.account_ledger.proofs.Changing.{changes_weaken}
-use Rattle.account_ledger.proofs.Sums.{same_sums, sum_map, sum_flat_map, sum_none, sum_ones, sum_where}
+use Rattle.account_ledger.proofs.Sums.{same_sums, sum_map, sum_flat_map, sum_none, sum_ones}
 
 -- the messages are as many as the files
 few_messages : (mailboxes : List (List ℕ)) (rows : List Row) → length (messages_in mailboxes rows) ≡ how_many_files (listings mailboxes rows)
@@ -36,7 +36,7 @@ few_messages mailboxes rows =
     sym (sum_ones (messages_in mailboxes rows))
     ∙ sum_flat_map (λ (m : Message). 1) (messages_of rows) mailboxes
     ∙ same_sums (λ m. sum_by (λ (x : Message). 1) (messages_of rows m)) (λ m. length (listed m rows)) mailboxes
-      (λ m. sum_map (λ (x : Message). 1) (message_in m) (listed m rows) ∙ sum_ones (listed m rows))
+    (λ m. sum_map (λ (x : Message). 1) (message_in m) (listed m rows) ∙ sum_ones (listed m rows))
     ∙ sym (sum_map length (λ m. listed m rows) mailboxes)
 
 small_files : (mailbox : List ℕ) (files : List FileRow) → sum_by (λ (m : Message). m.octets) (map (message_in mailbox) files) ≤ length files * 1099511627775
@@ -46,13 +46,13 @@ small_files mailbox (file ∷ files) =
     let rest = small_files mailbox files in
     let here : (message_in mailbox file).octets ≤ 1099511627775 = small_one file in
     omega arith
-    where
-      small_cut : (o : Option ℕ) (n : ℕ) → size_or o n ≤ 1099511627775
-      small_cut None n = omega arith
-      small_cut (Some size) n = omega arith
+  where
+    small_cut : (o : Option ℕ) (n : ℕ) → size_or o n ≤ 1099511627775
+    small_cut None n = omega arith
+    small_cut (Some size) n = omega arith
 
-      small_one : (f : FileRow) → octets_of f.name f.length ≤ 1099511627775
-      small_one f = small_cut (size_named (unique_of f.name)) f.length
+    small_one : (f : FileRow) → octets_of f.name f.length ≤ 1099511627775
+    small_one f = small_cut (size_named (unique_of f.name)) f.length
 
 small_messages : (mailboxes : List (List ℕ)) (rows : List Row) → sum_by (λ (m : Message). m.octets) (messages_in mailboxes rows) ≤ how_many_files (listings mailboxes rows) * 1099511627775
 small_messages [] rows = omega arith
@@ -74,7 +74,7 @@ how_many_in : (mailbox base : List ℕ) (mailboxes : List (List ℕ)) (rows : Li
 how_many_in mailbox base mailboxes rows =
     sum_flat_map (λ (x : Message). cond (is_message mailbox base x) 1 0) (messages_of rows) mailboxes
     ∙ same_sums (λ m. sum_by (λ (x : Message). cond (is_message mailbox base x) 1 0) (messages_of rows m)) (λ m. cond (bytes_eq m mailbox) (times_in (listed m rows) base) 0) mailboxes
-      (λ m. sum_map (λ (x : Message). cond (is_message mailbox base x) 1 0) (message_in m) (listed m rows) ∙ counted_at mailbox base m (bytes_eq m mailbox) refl (listed m rows))
+    (λ m. sum_map (λ (x : Message). cond (is_message mailbox base x) 1 0) (message_in m) (listed m rows) ∙ counted_at mailbox base m (bytes_eq m mailbox) refl (listed m rows))
 
 module _ {B : Type 0} where
   or_none : (o p : Option B) → option_or o p ≡ None → (o ≡ None) × (p ≡ None)
@@ -154,7 +154,7 @@ of_epoch : (epoch number : ℕ) → is_of_epoch epoch (delivered_base epoch numb
 of_epoch epoch number =
     let front = decimal epoch ++ codes "." in
     let a : starts_with nat_eq (delivered_base epoch number) front ≡ true =
-        ap (λ bs. pointwise nat_eq front (take (length front) bs)) (append_assoc front (decimal number) (codes ".quotad")) ∙ ap (pointwise nat_eq front) (take_at front (decimal number ++ codes ".quotad") (length front) refl) ∙ same_bytes front in
+    ap (λ bs. pointwise nat_eq front (take (length front) bs)) (append_assoc front (decimal number) (codes ".quotad")) ∙ ap (pointwise nat_eq front) (take_at front (decimal number ++ codes ".quotad") (length front) refl) ∙ same_bytes front in
     let whole = delivered_base epoch number in
     let long : length (front ++ decimal number) ≡ length whole - 7 = let e = length-append (front ++ decimal number) (codes ".quotad") in omega arith in
     let b : ends_with nat_eq whole (codes ".quotad") ≡ true = ap (pointwise nat_eq (codes ".quotad")) (drop_at (front ++ decimal number) (codes ".quotad") (length whole - 7) long) ∙ same_bytes (codes ".quotad") in

@@ -1,6 +1,6 @@
 -- What the machine replies, by what is kept of the roots.
-use Rattle.std.proofs.Common.{◌≡◌, ℕ, zero, suc, ◌+◌, ◌<◌, ◌≤◌, ◌↔◌, Bool, true, false, cond, not, nat_lt, nat_le, inl, inr, min, List, [], ◌∷◌, ◌++◌, length, get_or, map, filter, Option, Some, None, Ok, refl, sym, ap, ◌∙◌, subst, arith, add-zero, one-add, add-one, bytes_eq, find, codes, position}
-use Rattle.std.specs.Prelude.{IfSome, ⊤}
+use Rattle.std.proofs.Common.{◌≡◌, ℕ, suc, ◌+◌, ◌<◌, ◌≤◌, ◌↔◌, Bool, true, false, cond, not, nat_lt, nat_le, inl, inr, List, [], ◌∷◌, ◌++◌, length, get_or, map, filter, Option, Some, None, refl, sym, ap, ◌∙◌, arith, add-zero, bytes_eq, find}
+use Rattle.std.specs.Prelude.{IfSome}
 use Rattle.std.specs.List.{range_with_len, filter_map, cons_option, slice_get, position_or_len}
 use Rattle.std.specs.Option.{option_map}
 use Rattle.std.proofs.lemmas.Bool.Decides.{nat_tests}
@@ -18,10 +18,9 @@ use Rattle.quota_roots.specs.RootLists.{place_of}
 use Rattle.quota_roots.proofs.GoverningLemmas.{governs_at_get_or, governing_below, governing_more}
 use Rattle.admission.specs.Fitting.{allows, number_fits, over, first_over, all_over, limits_at, totals_at}
 use Rattle.account_core.specs.declared.calls.RootRow.{RootRow}
-use Rattle.account_core.specs.declared.calls.Reply.{Reply}
-use Rattle.account_core.specs.declared.calls.Reply.TheVariants.{NoRoot, Quota, LimitsSet, Roots}
+use Rattle.account_core.specs.declared.calls.Reply.TheVariants.{NoRoot, Quota, LimitsSet}
 use Rattle.account_core.specs.Account.{Account, usage}
-use Rattle.account_core.specs.Machine.{row_of, rows_from, rows, named, quota_reply, limits_reply, governing_rows, usages, over_in}
+use Rattle.account_core.specs.Machine.{row_of, rows_from, rows, named, quota_reply, limits_reply, governing_rows}
 use Rattle.account_core.proofs.Admitting.{totals_at-usages}
 use Rattle.admission.specs.declared.verdict.Verdict.{Verdict}
 use Rattle.admission.specs.declared.verdict.Verdict.TheVariants.{Fits, Over}
@@ -91,10 +90,10 @@ module _ (account : Account) (name : List ℕ) where
       find_rows 0 roots account.limits same
       ∙ by_place (nat_lt (position_or_len is_named roots) (length roots)) (found_at 0 roots account.limits) (position_or_len is_named roots)
       ∙ zeroed (place_of roots name)
-      where
-        zeroed : (o : Option ℕ) → option_map (found_at 0 roots account.limits) o ≡ option_map (λ k. (get_or roots k no_root, row_at roots account.limits account k)) o
-        zeroed None = refl
-        zeroed (Some k) = let e : 0 + k ≡ k = omega arith in ap (λ (j : ℕ). let f : RootSpec × RootRow = (get_or roots k no_root, row_of account j (get_or roots k no_root) (limits_at account.limits k)) in Some f) e
+    where
+      zeroed : (o : Option ℕ) → option_map (found_at 0 roots account.limits) o ≡ option_map (λ k. (get_or roots k no_root, row_at roots account.limits account k)) o
+      zeroed None = refl
+      zeroed (Some k) = let e : 0 + k ≡ k = omega arith in ap (λ (j : ℕ). let f : RootSpec × RootRow = (get_or roots k no_root, row_of account j (get_or roots k no_root) (limits_at account.limits k)) in Some f) e
 
   module _ (roots : List RootSpec) (same : length account.limits ≡ length roots) where
     pub quota_none : place_of roots name ≡ None → NoRoot ≡ quota_reply (named roots account name)

@@ -1,5 +1,5 @@
 -- Roots are settled one after another.
-use Rattle.std.proofs.Common.{◌≡◌, ◌⊎◌, ℕ, ◌<◌, ◌≤◌, ◌+◌, Bool, true, false, nat_eq, List, length, Option, Some, refl, sym, ap, ◌∙◌, inl, inr, subst, eqb-true, arith}
+use Rattle.std.proofs.Common.{◌≡◌, ℕ, ◌<◌, ◌+◌, Bool, true, false, nat_eq, List, length, Option, Some, refl, sym, ap, ◌∙◌, inl, inr, subst, eqb-true, arith}
 use Rattle.std.proofs.lemmas.Bool.{false≢true, cases_lt}
 use Rattle.std.proofs.lemmas.Option.{slice_get_past}
 use Rattle.std.specs.Option.{option_map_or}
@@ -7,7 +7,7 @@ use Rattle.quota_units.specs.Limiting.{LimitNumbers}
 use Rattle.quota_units.specs.declared.totals.Totals.{Totals}
 use Rattle.quota_roots.specs.declared.root.RootSpec.{RootSpec}
 use Rattle.quota_roots.specs.Governing.{governs, governs_at}
-use Rattle.keeper.specs.Files.{Files, Row, ledger_at}
+use Rattle.keeper.specs.Files.{Files}
 use Rattle.keeper.specs.Calls.{Told, Changes}
 use Rattle.admission.specs.Fitting.{limits_at}
 use Rattle.account_ledger.specs.declared.book.Book.{Book}
@@ -15,8 +15,8 @@ use Rattle.account_ledger.specs.declared.book.Standing.{Standing}
 use Rattle.account_ledger.specs.declared.book.Standing.TheVariants.{Settled, Doubt}
 use Rattle.account_ledger.specs.Scans.{scan}
 use Rattle.account_ledger.specs.Ledgers.{folded}
-use Rattle.account_ledger.specs.Settling.{OnFiles, book_at, folded_book, Stays, Settles, SettlesOrStays, Settling, Marks, MarksOne}
-use Rattle.account_ledger.proofs.Changing.{changes_then, changes_weaken, changes_same}
+use Rattle.account_ledger.specs.Settling.{OnFiles, book_at, folded_book, SettlesOrStays, Settling, Marks, MarksOne}
+use Rattle.account_ledger.proofs.Changing.{changes_then, changes_same}
 
 one_then : (may may1 : Bool) → (may1 ≡ true → may ≡ true) → (limits : LimitNumbers) (totals totals1 : Totals) → totals1 ≡ totals → (book book1 book2 : Book) (ledger ledger1 ledger2 : Option (List ℕ))
     → SettlesOrStays may limits totals book book1 ledger ledger1 → SettlesOrStays may1 limits totals1 book1 book2 ledger1 ledger2
@@ -24,12 +24,15 @@ one_then : (may may1 : Bool) → (may1 ≡ true → may ≡ true) → (limits : 
 one_then may may1 wider limits totals totals1 same book book1 book2 ledger ledger1 ledger2 (inl s) (inl t) =
     inl (record { book_is = t.book_is ∙ s.book_is; ledger_is = t.ledger_is ∙ s.ledger_is })
 one_then may may1 wider limits totals totals1 same book book1 book2 ledger ledger1 ledger2 (inl s) (inr (is, t)) =
-    inr (wider is, record {
-      doubt = sym (ap (λ (b : Book). b.standing) s.book_is) ∙ t.doubt;
-      book_is = t.book_is ∙ ap (folded_book limits) same;
-      ledger_is = t.ledger_is ∙ ap (λ x. Some (folded limits x)) same;
-      short = subst (λ x. length (folded limits x) < 5120) same t.short;
-    })
+    inr (
+      wider is,
+      record {
+        doubt = sym (ap (λ (b : Book). b.standing) s.book_is) ∙ t.doubt;
+        book_is = t.book_is ∙ ap (folded_book limits) same;
+        ledger_is = t.ledger_is ∙ ap (λ x. Some (folded limits x)) same;
+        short = subst (λ x. length (folded limits x) < 5120) same t.short;
+      },
+    )
 one_then may may1 wider limits totals totals1 same book book1 book2 ledger ledger1 ledger2 (inr (is, s)) (inl t) =
     inr (is, record { doubt = s.doubt; book_is = t.book_is ∙ s.book_is; ledger_is = t.ledger_is ∙ s.ledger_is; short = s.short })
 one_then may may1 wider limits totals totals1 same book book1 book2 ledger ledger1 ledger2 (inr (is, s)) (inr (also, t)) =

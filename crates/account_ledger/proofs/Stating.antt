@@ -1,6 +1,6 @@
 -- From what is kept to what clauses see.
-use Rattle.std.proofs.Common.{◌≡◌, ◌⊎◌, ℕ, ◌<◌, Bool, true, List, length, get_or, map, Option, Some, None, refl, sym, ap, ◌∙◌, inl, inr, arith}
-use Rattle.std.specs.Prelude.{IfSome, ⊤}
+use Rattle.std.proofs.Common.{◌≡◌, ◌⊎◌, ℕ, ◌<◌, Bool, true, List, length, get_or, Option, Some, None, refl, sym, ap, ◌∙◌, inl, inr, arith}
+use Rattle.std.specs.Prelude.{IfSome}
 use Rattle.std.specs.Option.{option_map}
 use Rattle.std.proofs.Math.ListN.{get_or-map}
 use Rattle.std.proofs.lemmas.List.{length-map, get_or_read}
@@ -14,8 +14,8 @@ use Rattle.account_core.specs.Account.{Account}
 use Rattle.account_core.specs.History.{replay}
 use Rattle.account_ledger.specs.declared.book.Book.{Book}
 use Rattle.account_ledger.specs.declared.book.Standing.{Standing}
-use Rattle.account_ledger.specs.declared.book.Standing.TheVariants.{Settled, Doubt}
-use Rattle.account_ledger.specs.Settling.{OnFiles, no_book, book_at, standings_of, folded_book, Settling, SettlesOrStays, Marks, MarksOne}
+use Rattle.account_ledger.specs.declared.book.Standing.TheVariants.{Settled}
+use Rattle.account_ledger.specs.Settling.{OnFiles, no_book, book_at, standings_of, Settling, SettlesOrStays, Marks, MarksOne}
 use Rattle.account_ledger.specs.Opening.{opening_of, opening_account}
 use Rattle.account_ledger.specs.Scans.{scan}
 use Rattle.admission.specs.Fitting.{limits_at}
@@ -116,8 +116,8 @@ module _ (then now : Option Told) (faults_then faults : ℕ) (setup : Setup) (ep
   rows_are =
       of_account then now faults_then faults setup epoch limits books deliveries history (λ account. kept_rows setup.roots limits books mailbox ≡ governing_rows setup.roots account mailbox)
       (λ account files holds.
-        map_where (kept_row limits books) (row_at setup.roots account.limits account) (λ root. governs_at setup.roots root mailbox) (row_here account files holds) (range_with_len 0 (length setup.roots))
-        ∙ sym (governing_rows_are setup.roots account mailbox (ap length holds.limits_are ∙ order.limits_each))) order
+      map_where (kept_row limits books) (row_at setup.roots account.limits account) (λ root. governs_at setup.roots root mailbox) (row_here account files holds) (range_with_len 0 (length setup.roots))
+      ∙ sym (governing_rows_are setup.roots account mailbox (ap length holds.limits_are ∙ order.limits_each))) order
 
   -- and so is the first root over
   pub over_is : (octets : ℕ) → IfSome (option_map (λ opening. replay setup.roots opening history) (opening_of setup epoch then))
@@ -125,8 +125,8 @@ module _ (then now : Option Told) (faults_then faults : ℕ) (setup : Setup) (ep
   over_is octets =
       of_account then now faults_then faults setup epoch limits books deliveries history (λ account. first_over limits (totals_of books) (governing setup.roots mailbox) octets ≡ over_in setup.roots account mailbox octets)
       (λ account files holds.
-        first_over_where setup.roots mailbox limits (totals_of books) (usages setup.roots account) octets (λ root governed. totals_at_of books root ∙ totals_here account files holds root governed)
-        ∙ ap (λ ls. first_over ls (usages setup.roots account) (governing setup.roots mailbox) octets) (sym holds.limits_are)) order
+      first_over_where setup.roots mailbox limits (totals_of books) (usages setup.roots account) octets (λ root governed. totals_at_of books root ∙ totals_here account files holds root governed)
+      ∙ ap (λ ls. first_over ls (usages setup.roots account) (governing setup.roots mailbox) octets) (sym holds.limits_are)) order
 
 pub limits_each : (then now : Option Told) (faults_then faults : ℕ) (setup : Setup) (epoch : ℕ) (limits : List LimitNumbers) (books : List Book) (deliveries : ℕ) (history : List Entry)
     → InOrder then now faults_then faults setup epoch limits books deliveries history

@@ -1,5 +1,5 @@
 -- A fresh scan gives the usage, where the files stand for the account.
-use Rattle.std.proofs.Common.{◌≡◌, ℕ, ◌+◌, ◌*◌, ◌^◌, ◌<◌, ◌≤◌, Bool, true, false, cond, List, [], length, get_or, map, sum_by, None, arith, refl, sym, ap, ◌∙◌}
+use Rattle.std.proofs.Common.{◌≡◌, ℕ, ◌+◌, ◌*◌, ◌^◌, ◌<◌, ◌≤◌, Bool, true, false, cond, List, [], length, get_or, sum_by, None, arith, refl, sym, ap, ◌∙◌}
 use Rattle.std.proofs.lemmas.List.Sums.{sum_by-le-sum_by}
 use Rattle.quota_roots.specs.declared.root.RootSpec.{RootSpec}
 use Rattle.quota_roots.specs.Governing.{governs, governs_at}
@@ -9,7 +9,7 @@ use Rattle.keeper.specs.declared.rows.FileRow.{FileRow}
 use Rattle.account_core.specs.Account.{Account, Message, counted, usage}
 use Rattle.account_core.proofs.Admitting.{totals_at-usages, same_totals}
 use Rattle.account_ledger.specs.Messages.{message_in, messages_of, messages_in, StandFor}
-use Rattle.account_ledger.specs.Scans.{cut, scan, scanned_octets, scanned_count, size_of_file, sizes_of}
+use Rattle.account_ledger.specs.Scans.{cut, scan, scanned_octets, scanned_count, size_of_file}
 use Rattle.account_ledger.specs.States.{usage_at}
 use Rattle.account_ledger.proofs.Sums.{same_sums, sum_map, sum_flat_map, sum_ones, sum_where}
 
@@ -64,9 +64,9 @@ module _ (roots : List RootSpec) (root : ℕ) (inside : root < length roots) (ac
       let o = octets_are in
       let k = counts_are in
       let a : (usage spec account).octets ≤ sum_by (λ (m : Message). m.octets) account.messages =
-          sum_by-le-sum_by (λ (m : Message). cond (governs spec m.mailbox) m.octets 0) (λ (m : Message). m.octets) account.messages (λ m. at_most (governs spec m.mailbox) m.octets) in
+      sum_by-le-sum_by (λ (m : Message). cond (governs spec m.mailbox) m.octets 0) (λ (m : Message). m.octets) account.messages (λ m. at_most (governs spec m.mailbox) m.octets) in
       let b : (usage spec account).count ≤ sum_by (λ (m : Message). 1) account.messages =
-          sum_by-le-sum_by (λ (m : Message). cond (governs spec m.mailbox) 1 0) (λ (m : Message). 1) account.messages (λ m. at_most (governs spec m.mailbox) 1) in
+      sum_by-le-sum_by (λ (m : Message). cond (governs spec m.mailbox) 1 0) (λ (m : Message). 1) account.messages (λ m. at_most (governs spec m.mailbox) 1) in
       let c = sum_ones account.messages in
       let e : cut (scanned_octets roots root mailboxes rows) ≡ (usage spec account).octets = omega arith in
       let f : cut (scanned_count roots root mailboxes rows) ≡ (usage spec account).count = omega arith in

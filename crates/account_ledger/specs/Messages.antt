@@ -1,5 +1,5 @@
 -- The messages that the files of an account's mailboxes tell.
-use Rattle.std.specs.Prelude.{◌≡◌, ℕ, ◌+◌, Bool, ◌&&◌, if◌then◌else◌, List, map, sum_by, bytes_eq}
+use Rattle.std.specs.Prelude.{◌≡◌, ℕ, Bool, ◌&&◌, if◌then◌else◌, List, map, sum_by, bytes_eq}
 use Rattle.std.specs.List.{flat_map}
 use Rattle.keeper.specs.Files.{Row, listed}
 use Rattle.keeper.specs.declared.rows.FileRow.{FileRow}

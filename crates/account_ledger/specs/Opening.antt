@@ -1,6 +1,6 @@
 -- The account that a store's files make when they are opened, and why a store is refused.
-use Rattle.std.specs.Prelude.{◌≡◌, ◌<◌, ◌≤◌, ◌-◌, ◌^◌, ℕ, min, Bool, ◌&&◌, nat_lt, nat_eq, if◌then◌else◌, List, [], ◌∷◌, ◌++◌, length, map, find, take, count_by, bytes_eq, codes, decimal, Option, Some, None, unwrap_or, sum_by, Vec, Result, Ok, Err}
-use Rattle.std.specs.List.{range_with_len, flat_map, starts_with, ends_with}
+use Rattle.std.specs.Prelude.{◌≡◌, ◌<◌, ◌≤◌, ◌-◌, ◌^◌, ℕ, min, Bool, ◌&&◌, nat_lt, nat_eq, List, [], ◌∷◌, ◌++◌, length, map, find, take, count_by, bytes_eq, codes, decimal, Option, Some, None, unwrap_or, sum_by, Vec, Result, Ok, Err}
+use Rattle.std.specs.List.{range_with_len, starts_with, ends_with}
 use Rattle.std.specs.Option.{option_map, option_or}
 use Rattle.quota_units.specs.Limiting.{LimitNumbers}
 use Rattle.quota_roots.specs.declared.setup.Setup.{Setup}

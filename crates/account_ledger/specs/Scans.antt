@@ -1,5 +1,5 @@
 -- A fresh scan: what the files of the mailboxes that a root governs add up to.
-use Rattle.std.specs.Prelude.{◌≡◌, ◌<◌, ◌-◌, ◌^◌, ℕ, min, if◌then◌else◌, List, length, sum_by}
+use Rattle.std.specs.Prelude.{◌<◌, ◌-◌, ◌^◌, ℕ, min, if◌then◌else◌, List, length, sum_by}
 use Rattle.quota_units.specs.declared.totals.Totals.{Totals}
 use Rattle.quota_roots.specs.declared.root.RootSpec.{RootSpec}
 use Rattle.quota_roots.specs.Governing.{governs_at}

@@ -12,7 +12,7 @@ use Rattle.account_core.specs.declared.calls.StepError.TheVariants.{NoMemory, St
 use Rattle.account_core.specs.Machine.{step}
 use Rattle.account_core.specs.History.{entry_of}
 use Rattle.keeper.specs.Files.{Files, ledger_at}
-use Rattle.keeper.specs.Calls.{Told, Changes}
+use Rattle.keeper.specs.Calls.{Changes}
 use Rattle.account_core.specs.Account.{Account}
 use Rattle.account_ledger.specs.declared.book.Standing.{Standing}
 use Rattle.account_ledger.specs.declared.book.Standing.TheVariants.{Settled, Doubt}

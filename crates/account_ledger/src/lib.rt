@@ -12,3 +12,6 @@ mod state;
 pub use book::Standing;
 pub use open::{OpenError, OpenFault};
 pub use state::AccountState;
+
+#[cfg(test)]
+mod tests;

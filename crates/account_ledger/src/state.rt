@@ -57,17 +57,17 @@ impl<K: Keeper> Model for AccountState<K> {
     ghost Value = { State };
 
     ghost view = { λ a. record {
-        told = K.told a.keeper;
-        faults = K.faults a.keeper;
-        append_faults = K.append_faults a.keeper;
-        lists = K.lists a.keeper;
-        setup = a.setup;
-        epoch = a.epoch;
-        opening = opening_of a.setup a.epoch (K.told a.opened.value);
-        first_faults = K.faults a.opened.value;
-        history = a.history.items;
-        reserved = vec_capacity a.history;
-        standings = standings_of a.books.items
+      told = K.told a.keeper;
+      faults = K.faults a.keeper;
+      append_faults = K.append_faults a.keeper;
+      lists = K.lists a.keeper;
+      setup = a.setup;
+      epoch = a.epoch;
+      opening = opening_of a.setup a.epoch (K.told a.opened.value);
+      first_faults = K.faults a.opened.value;
+      history = a.history.items;
+      reserved = vec_capacity a.history;
+      standings = standings_of a.books.items;
     } };
 
     ghost invariant = { λ a. InOrder (K.told a.opened.value) (K.told a.keeper) (K.faults a.opened.value) (K.faults a.keeper) a.setup a.epoch a.limits.items a.books.items a.deliveries a.history.items };
@@ -130,6 +130,13 @@ impl<K: Keeper> AccountState<K> {
         ensures { result ≡ length self.now.history }
     {
         self.history.len() as u32
+    }
+
+    /// How many roots the account has: 1 to 4.
+    pub fn root_count(&self) -> u32
+        ensures { result ≡ length self.now.setup.roots }
+    {
+        self.setup.roots.count()
     }
 
     /// Whether the root of this number is settled.
@@ -311,13 +318,7 @@ impl<K: Keeper> AccountState<K> {
         requires { (root : ℕ) → governs_at self.now.setup.roots root mailbox.now ≡ true → standing_at self.now.standings root ≡ Settled }
         ensures { IfOk result (λ rows. OfAccount self.now (λ account. rows ≡ governing_rows self.now.setup.roots account mailbox.now)) }
     {
-        rows_of(
-            alloc,
-            &self.setup.roots,
-            &self.limits,
-            &self.books,
-            mailbox,
-        )
+        rows_of(alloc, &self.setup.roots, &self.limits, &self.books, mailbox)
     }
 
     /// Whether a message fits the roots that govern the mailbox, which are settled.
@@ -423,7 +424,10 @@ impl<K: Keeper> AccountState<K> {
 
     /// The keeper, as the account leaves it.
     pub fn into_keeper(self) -> K
-        ensures { self.told ≡ K.told result }
+        ensures told { K.told result ≡ self.told }
+        ensures faults { K.faults result ≡ self.faults }
+        ensures append_faults { K.append_faults result ≡ self.append_faults }
+        ensures lists { K.lists result ≡ self.lists }
     {
         let AccountState { keeper, .. } = self;
         keeper

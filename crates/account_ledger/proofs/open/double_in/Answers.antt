@@ -1,4 +1,4 @@
-use Rattle.std.proofs.Common.{◌≡◌, ◌+◌, ◌<◌, ◌∙◌, ap, sym, true, false, nat_lt, Option, Some, List, ℕ, drop, find, subst}
+use Rattle.std.proofs.Common.{◌≡◌, ◌∙◌, ap, sym, true, false, nat_lt, Option, Some, List, ℕ}
 use Rattle.std.specs.Option.{option_map}
 use Rattle.keeper.specs.declared.rows.FileRow.{FileRow}
 use Rattle.account_ledger.specs.Opening.{base_in, times_in, shown}

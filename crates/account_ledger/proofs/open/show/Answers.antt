@@ -1,4 +1,4 @@
-use Rattle.std.proofs.Common.{◌≡◌, ◌-◌, ◌∙◌, ap, take, rules, arith}
+use Rattle.std.proofs.Common.{◌∙◌}
 use Rattle.account_ledger.proofs.OpenLemmas.{shown_is}
 use Rattle.account_ledger.proofs.open.show.Goals as goal
 

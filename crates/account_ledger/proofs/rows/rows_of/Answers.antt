@@ -1,4 +1,4 @@
-use Rattle.std.proofs.Common.{◌≡◌, ◌∙◌, ◌++◌, ◌∷◌, [], ap, sym, append-nil, true, false}
+use Rattle.std.proofs.Common.{◌∙◌, ◌++◌, ◌∷◌, [], ap, sym, append-nil, true, false}
 use Rattle.account_ledger.specs.Rows.{kept_row}
 use Rattle.account_ledger.proofs.Replying.{rows_more}
 use Rattle.account_ledger.proofs.rows.rows_of.Goals as goal

@@ -1,5 +1,4 @@
 use Rattle.std.proofs.Common.{◌≡◌, take}
-use Rattle.std.specs.Prelude.{Ok}
 use Rattle.keeper.specs.Calls.{Changes}
 use Rattle.account_ledger.specs.Scans.{AreSmall}
 use Rattle.account_ledger.specs.Scanning.{ScansSome}

@@ -1,4 +1,4 @@
-use Rattle.std.proofs.Common.{ℕ, ◌<◌, ◌∙◌, sym, arith, rules, nat_eq}
+use Rattle.std.proofs.Common.{◌∙◌, sym, arith, rules, nat_eq}
 use Rattle.quota_roots.specs.Governing.{governs_at}
 use Rattle.account_ledger.proofs.SettleLemmas.{settles_then, marks_then, only_governing, governed_inside, settled_more, settled_past}
 use Rattle.account_ledger.proofs.settle.settle_governing.Goals as goal
@@ -26,13 +26,13 @@ loop-root-preserved g c =
             appends = w.settle.ensures.appends ∙ c.loop-root.invariant.appends;
           })
       | else-governs w ↦ rw (w.keeper-is, w.books-is) (record {
-            files = c.loop-root.invariant.files;
-            marks = c.loop-root.invariant.marks;
-            small = c.loop-root.invariant.small;
-            settled = settled_past setup.roots c.args.mailbox.now c.loop-root.root _ c.loop-root.invariant.settled (sym c.governs.ensures ∙ w.if-governs.false);
-            faults = c.loop-root.invariant.faults;
-            appends = c.loop-root.invariant.appends;
-          })
+        files = c.loop-root.invariant.files;
+        marks = c.loop-root.invariant.marks;
+        small = c.loop-root.invariant.small;
+        settled = settled_past setup.roots c.args.mailbox.now c.loop-root.root _ c.loop-root.invariant.settled (sym c.governs.ensures ∙ w.if-governs.false);
+        faults = c.loop-root.invariant.faults;
+        appends = c.loop-root.invariant.appends;
+      })
     ]
 
 pub returns-clause-settled : goal.returns-clause-settled

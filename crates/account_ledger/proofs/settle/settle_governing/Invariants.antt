@@ -14,5 +14,5 @@ invariant-loop-root g l = record {
   small : All (λ book. AreSmall book.totals) l.books.items;
   settled : (root : ℕ) → root < l.root → governs_at l.setup.roots root l.mailbox ≡ true → (book_at l.books.items root).standing ≡ Settled;
   faults : g.K.Keeper.faults l.keeper ≡ g.K.Keeper.faults l.initial.keeper;
-  appends : g.K.Keeper.append_faults l.keeper ≡ g.K.Keeper.append_faults l.initial.keeper
+  appends : g.K.Keeper.append_faults l.keeper ≡ g.K.Keeper.append_faults l.initial.keeper;
 }

@@ -1,5 +1,4 @@
-use Rattle.std.proofs.Common.{◌∙◌, ap, refl, rules}
-use Rattle.account_ledger.specs.Opening.{opening_of}
+use Rattle.std.proofs.Common.{◌∙◌, refl, rules}
 use Rattle.account_ledger.proofs.Opened.{order_opened}
 use Rattle.account_ledger.proofs.Stating.{standing_of}
 use Rattle.account_ledger.proofs.state.AccountState.open.Goals as goal

@@ -5,7 +5,6 @@ use Rattle.account_core.specs.declared.calls.RootRow.{RootRow}
 use Rattle.account_core.specs.Machine.{governing_rows}
 use Rattle.account_ledger.specs.declared.book.Standing.TheVariants.{Settled}
 use Rattle.account_ledger.specs.Rows.{kept_rows}
-use Rattle.account_ledger.specs.Serving.{OfAccount}
 use Rattle.account_ledger.specs.States.{State, standing_at}
 use Rattle.account_ledger.proofs.Replying.{of_weaker}
 use Rattle.account_ledger.proofs.Stating.{rows_are}

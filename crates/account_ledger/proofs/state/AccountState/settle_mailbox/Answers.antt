@@ -1,8 +1,6 @@
-use Rattle.std.proofs.Common.{◌≡◌, ◌<◌, ◌∙◌, ap, sym, length, nat_eq, arith, subst}
-use Rattle.quota_roots.specs.declared.setup.Setup.{Setup}
 use Rattle.quota_roots.specs.Governing.{governs_at}
 use Rattle.account_ledger.proofs.Keeping.{order_settled}
-use Rattle.account_ledger.proofs.Stating.{ledgers_settled, marks_each, marks_count, kept_totals, read_totals}
+use Rattle.account_ledger.proofs.Stating.{ledgers_settled, marks_each, marks_count}
 use Rattle.account_ledger.proofs.state.AccountState.settle_mailbox.Goals as goal
 
 pub invariant_of-self : goal.invariant_of-self
@@ -42,5 +40,3 @@ returns-clause-settles g c =
       each = marks_each (λ root. governs_at s.setup.roots root c.args.mailbox.now) s.books.items n.books.items c.settle_governing-settled.ensures.marks;
       appends = c.settle_governing-settled.ensures.appends;
     })
-
-

@@ -1,5 +1,4 @@
-use Rattle.std.proofs.Common.{◌≡◌, ◌<◌, ◌∙◌, ap, sym, length, nat_eq, arith, subst}
-use Rattle.quota_roots.specs.declared.setup.Setup.{Setup}
+use Rattle.std.proofs.Common.{◌<◌, sym, length, nat_eq, arith, subst}
 use Rattle.account_ledger.specs.States.{State}
 use Rattle.account_ledger.proofs.Keeping.{order_settled}
 use Rattle.account_ledger.proofs.Stating.{ledgers_settled, marks_each, marks_count, kept_totals, read_totals}
@@ -48,8 +47,8 @@ returns-clause-usage g c =
     let s = c.self.inside in
     let n = c.settle-settled.new in
     let order = order_settled (g.K.Keeper.told s.opened.value) (g.K.Keeper.told s.keeper) (g.K.Keeper.told n.keeper) (g.K.Keeper.faults s.opened.value) (g.K.Keeper.faults s.keeper) (g.K.Keeper.faults n.keeper)
-        s.setup s.epoch s.limits.items s.books.items n.books.items s.deliveries s.history.items (nat_eq c.args.root)
-        c.self.invariant (rw c.deref.ensures.value at c.settle-settled.ensures.files) c.settle-settled.ensures.marks c.settle-settled.ensures.small c.settle-settled.ensures.cause.later in
+    s.setup s.epoch s.limits.items s.books.items n.books.items s.deliveries s.history.items (nat_eq c.args.root)
+    c.self.invariant (rw c.deref.ensures.value at c.settle-settled.ensures.files) c.settle-settled.ensures.marks c.settle-settled.ensures.small c.settle-settled.ensures.cause.later in
     let inside = subst (λ (v : State). c.args.root < length v.setup.roots) (sym c.self.view_is) c.requires in
     let read = read_totals n.books.items c.args.root c.index.result.now (omega (arith, order.books_each)) c.index.ensures in
     rw (← c.self.view_is) (rw read (kept_totals _ _ _ _ s.setup s.epoch s.limits.items n.books.items s.deliveries s.history.items c.args.root inside c.in_default.ensures.settled order))

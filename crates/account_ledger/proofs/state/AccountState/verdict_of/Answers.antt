@@ -1,4 +1,4 @@
-use Rattle.std.proofs.Common.{◌≡◌, ◌∙◌, ℕ, true, List, ap, sym, subst, rules}
+use Rattle.std.proofs.Common.{◌≡◌, ◌∙◌, ℕ, true, ap, sym, subst, rules}
 use Rattle.quota_roots.specs.Governing.{governs_at, governing}
 use Rattle.admission.specs.Fitting.{first_over}
 use Rattle.account_core.specs.Machine.{over_in}
