@@ -1,6 +1,7 @@
 pub mod Account
+pub mod Delivering
 pub mod Machine
 pub mod History
+pub mod Legality
 pub mod Plain
-pub mod Delivering
 pub mod Histories

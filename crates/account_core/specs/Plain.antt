@@ -3,7 +3,7 @@ use Rattle.std.specs.Prelude.{[], ◌∷◌, codes, None, bytes_eq, if◌then◌
 use Rattle.quota_units.specs.Limiting.{LimitNumbers}
 use Rattle.quota_roots.specs.declared.root.RootSpec.{RootSpec}
 use Rattle.account_core.specs.declared.calls.Call.{Call}
-use Rattle.account_core.specs.declared.calls.Call.TheVariants.{Quota, SetLimits, Roots}
+use Rattle.account_core.specs.declared.calls.Call.TheVariants.{Deliver, Check, Quota, SetLimits, Roots}
 use Rattle.account_core.specs.declared.calls.Reply.{Reply}
 use Rattle.account_core.specs.Account.{Account, Opened}
 use Rattle.account_core.specs.Machine.{reply_of}
@@ -18,12 +18,22 @@ plain_account limits = record { limits = limits ∷ []; mailboxes = codes "INBOX
 abbrev pub plain_opened : LimitNumbers → Opened
 plain_opened limits = record { roots = plain_root ∷ []; journal = 65536; account = plain_account limits }
 
+-- the calls that such an account serves
+abbrev pub IsPlainCall : Call → Type 0
+IsPlainCall (Deliver mailbox octets flags) = ⊥
+IsPlainCall (Check octets) = ⊥
+IsPlainCall (Quota name) = Unit {0}
+IsPlainCall (SetLimits name limits) = Unit {0}
+IsPlainCall (Roots mailbox) = Unit {0}
+
 -- what it is answered while the root has these limits
 abbrev pub plain_reply : Call → LimitNumbers → Reply
 plain_reply call limits = reply_of (plain_root ∷ []) (plain_account limits) call
 
 -- the limits after the call
 abbrev pub plain_limits : Call → LimitNumbers → LimitNumbers
+plain_limits (Deliver mailbox octets flags) limits = limits
+plain_limits (Check octets) limits = limits
 plain_limits (Quota name) limits = limits
 plain_limits (SetLimits name others) limits = if bytes_eq [] name then others else limits
 plain_limits (Roots mailbox) limits = limits

@@ -2,13 +2,21 @@ ghost use Rattle.std.specs.Prelude.{◌≡◌};
 ghost use Rattle.account_core.specs.declared.calls.StepError.TheVariants.{NoMemory};
 
 use crate::RootRows;
-use quota_units::{Limits, Name};
+use quota_units::{Flags, Limits, Name, Resource};
 use std::alloc::{AllocError, AllocFailed};
 use thiserror::Error;
 
 /// What an account is asked.
 #[derive(Debug, Drop)]
 pub enum Call {
+    /// A message of so many octets, with these flags, for the mailbox of this name.
+    Deliver {
+        mailbox: Name,
+        octets: u64,
+        flags: Flags,
+    },
+    /// Whether INBOX would take a message of so many octets.
+    Check { octets: u64 },
     /// The usage and the limits of the root of this name.
     Quota { root: Name },
     /// The root of this name has these limits from now on; those that are not set here are removed.
@@ -29,6 +37,14 @@ pub struct RootRow {
 /// What the account machine answers.
 #[derive(Debug, Drop)]
 pub enum Reply {
+    /// The account has no mailbox of that name.
+    NoMailbox,
+    /// The message would take this resource of this root above its limit (RFC 9208, section 4.3.1).
+    Over { root: u32, resource: Resource },
+    /// The message was accepted, as the delivery of this number, from 1 on.
+    Delivered { number: u64 },
+    /// The message would stay within every limit.
+    Fits,
     /// No root has that name.
     NoRoot,
     /// The named root, as it is.

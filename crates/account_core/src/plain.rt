@@ -1,7 +1,7 @@
 ghost use Rattle.std.specs.Prelude.{◌≡◌, ◌≢◌, ◌≤◌, ◌↔◌, [], ◌∷◌, length, IsOk, IfOk, IsErrOf};
 ghost use Rattle.quota_roots.specs.RootLists.{name_at};
 ghost use Rattle.account_core.specs.History.{Serves};
-ghost use Rattle.account_core.specs.Plain.{plain_root, plain_opened, plain_reply, plain_limits};
+ghost use Rattle.account_core.specs.Plain.{plain_root, plain_opened, plain_reply, plain_limits, IsPlainCall};
 
 use crate::{Call, Entry, Reply, RootRow, RootRows, StepError};
 use quota_units::{Limits, Name, NoMemory};
@@ -54,13 +54,14 @@ impl PlainAccount {
         b""
     }
 
-    /// Answers a call of the account's owner, who is caller 0.
+    /// Answers a call of the account's owner, who is caller 0: one of `Quota`, `SetLimits` and `Roots`.
     ///
     /// # Errors
     ///
     /// `JournalFull` where the history holds 65536 entries, and `NoMemory`; both leave the history as it was.
     #[tactic(auto, using(crate::proofs::Replaying::plain_replies, crate::proofs::Replaying::plain_goes_on))]
     pub fn serve(&mut self, alloc: Global, call: Call) -> Result<Reply, StepError>
+        requires { IsPlainCall call }
         ensures opened { self.new.opened ≡ self.old.opened }
         ensures serves { Serves self.old.opened 0 self.old.history call result self.new.history }
         ensures within { length self.new.history ≤ self.new.opened.journal }
@@ -86,6 +87,7 @@ impl PlainAccount {
 
 /// What the machine answers, where the one root has the empty name and no message counts.
 fn answer(alloc: Global, call: &Call, limits: Limits) -> Result<Reply, AllocError>
+    requires { IsPlainCall call.now }
     ensures { IfOk result (λ reply. reply ≡ plain_reply call.now limits) }
 {
     match call {
@@ -101,6 +103,7 @@ fn answer(alloc: Global, call: &Call, limits: Limits) -> Result<Reply, AllocErro
             }
             Ok(Reply::Roots(rows))
         }
+        Call::Deliver { .. } | Call::Check { .. } => unreachable!(),
     }
 }
 

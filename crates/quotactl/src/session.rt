@@ -1,6 +1,7 @@
 // One session of IMAP for the owner of one account.
 ghost use Rattle.std.specs.Prelude.{◌≡◌, ◌≢◌, ◌≤◌, ◌⊎◌, ◌++◌, ℕ, [], ◌∷◌, length, ◌<◌, OnOk, OnErr, IfOk, IfSome};
 ghost use Rattle.wire_io.specs.Lines.{IsLine};
+ghost use Rattle.account_core.specs.Plain.{IsPlainCall};
 ghost use Rattle.quotactl.specs.Imap.{max_text, imap};
 ghost use Rattle.wire_io.specs.Causes.{Rose};
 ghost use Rattle.wire_io.specs.Feeds.{source_of, source_name, waiting_of, taken_of, handed_of, limit_of};
@@ -35,7 +36,8 @@ fn answer_call(
     tag: &[u8],
     text: &mut Vec<u8>,
 ) -> Result<(), NoMemory>
-    requires { text.old.items ≡ [] }
+    requires plain { IsPlainCall call }
+    requires empty { text.old.items ≡ [] }
     ensures ok { OnOk result (AnswersCall account.old account.new call mailbox.now tag.now text.new.items) }
     ensures err { OnErr result (LeavesCall account.old account.new call) }
 {

@@ -172,6 +172,10 @@ pub fn push_answer(
     ensures { OnOk result (out.new.items ≡ out.old.items ++ answer_text session_roots mailbox.now tag.now (replied reply.now)) }
 {
     match reply {
+        Reply::NoMailbox => push_tagged(out, tag, b"NO [TRYCREATE] No such mailbox"),
+        Reply::Over { .. } => push_tagged(out, tag, b"NO [OVERQUOTA] Quota exceeded"),
+        Reply::Delivered { .. } => push_tagged(out, tag, b"OK APPEND completed"),
+        Reply::Fits => Ok(()),
         Reply::NoRoot => push_tagged(out, tag, NO_ROOT),
         Reply::Quota(row) => {
             push_root_line(out, account, row)?;

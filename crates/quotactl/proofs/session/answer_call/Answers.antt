@@ -10,7 +10,7 @@ pub returns-in-Ok-push_answer-clause-ok : goal.returns-in-Ok-push_answer-clause-
 returns-in-Ok-push_answer-clause-ok c =
     let answer = replied c.in-Ok.reply in (
       answer,
-      c.in-Ok-push_answer.ensures ∙ ap (λ l. l ++ answer_text session_roots c.args.mailbox.now c.args.tag.now answer) c.requires,
+      c.in-Ok-push_answer.ensures ∙ ap (λ l. l ++ answer_text session_roots c.args.mailbox.now c.args.tag.now answer) c.requires.empty,
       owns_call c.args.account.now c.serve.new.self c.args.call answer c.in-Ok.ensures.opened c.in-Ok.ensures.serves (replied_never c.in-Ok.reply),
     )
 
@@ -27,6 +27,6 @@ returns-in-Ok-push_tagged-clause-ok c =
     let full : Serves account.opened 0 account.history c.args.call (Err (JournalFull c.in-Err-JournalFull.field-0-0)) c.serve.new.self.history =
     subst (λ e. Serves account.opened 0 account.history c.args.call (Err e) c.serve.new.self.history) c.in-Err-JournalFull.field-0-is c.in-Err-JournalFull.ensures.serves in (
       answer,
-      c.in-Ok-push_tagged.ensures ∙ ap (λ l. l ++ answer_text session_roots c.args.mailbox.now c.args.tag.now answer) c.requires,
+      c.in-Ok-push_tagged.ensures ∙ ap (λ l. l ++ answer_text session_roots c.args.mailbox.now c.args.tag.now answer) c.requires.empty,
       owns_call c.args.account.now c.serve.new.self c.args.call answer c.in-Err-JournalFull.ensures.opened full.1 full_never,
     )

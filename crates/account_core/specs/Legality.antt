@@ -1,0 +1,69 @@
+-- Legal histories; and two laws of deliveries, over every history.
+use Rattle.std.specs.Prelude.{◌≡◌, ◌≤◌, ◌↔◌, ℕ, true, false, if◌then◌else◌, List, [], ◌∷◌, ◌++◌, sum_by, codes}
+use Rattle.quota_units.specs.Limiting.{LimitNumbers}
+use Rattle.quota_units.specs.declared.flags.Flags.{Flags}
+use Rattle.quota_units.specs.declared.resource.Resource.{Resource}
+use Rattle.quota_units.specs.declared.totals.Totals.{Totals}
+use Rattle.quota_roots.specs.Governing.{governing, governs_at}
+use Rattle.admission.specs.Fitting.{allows, limits_at, totals_at, FitsEach}
+use Rattle.account_core.specs.declared.calls.Call.{Call}
+use Rattle.account_core.specs.declared.calls.Call.TheVariants.{Deliver, Check, Quota, SetLimits, Roots}
+use Rattle.account_core.specs.declared.calls.Entry.{Entry}
+use Rattle.account_core.specs.declared.calls.Reply.{Reply}
+use Rattle.account_core.specs.declared.calls.Reply.TheVariants.{Over, Delivered}
+use Rattle.account_core.specs.Account.{Account, Opened}
+use Rattle.account_core.specs.Machine.{has_mailbox, usages}
+use Rattle.account_core.specs.History.{replay, reply, entry_of}
+
+-- what each call has to meet: a message has at most 67108864 octets
+abbrev pub MayBeServed : Call → Type 0
+MayBeServed (Deliver mailbox octets flags) = octets ≤ 67108864
+MayBeServed (Check octets) = Unit {0}
+MayBeServed (Quota name) = Unit {0}
+MayBeServed (SetLimits name limits) = Unit {0}
+MayBeServed (Roots mailbox) = Unit {0}
+
+-- each entry's call meets that
+abbrev pub AreServed : List Entry → Type 0
+AreServed [] = Unit {0}
+AreServed (entry ∷ entries) = MayBeServed entry.call × AreServed entries
+
+-- how many entries have fault
+abbrev pub fault_count : List Entry → ℕ
+fault_count entries = sum_by (λ entry. if entry.fault then 1 else 0) entries
+
+-- the limits allow so much
+pub record AreWithin (limits : LimitNumbers) (totals : Totals) : Type 0 where
+  pub octets : allows limits.octets totals.octets ≡ true
+  pub count : allows limits.count totals.count ≡ true
+
+-- the account that a history leaves
+abbrev pub account_at : Opened → List Entry → Account
+account_at opened history = replay opened.roots opened.account history
+
+-- the message fits each root that governs the mailbox, on top of what the root has
+abbrev pub FitsIn : Opened → List Entry → List ℕ → ℕ → Type 0
+FitsIn opened history mailbox octets =
+    FitsEach (account_at opened history).limits (usages opened.roots (account_at opened history)) (governing opened.roots mailbox) octets
+
+-- No accepted message breaks a limit: behind the entry of a delivery that was accepted, each root that governs the mailbox has a
+-- usage within its limits. It holds behind every history, so behind every legal one.
+abbrev pub NoneBroken : Type 0
+NoneBroken =
+    (opened : Opened) (history : List Entry) (caller : ℕ) (mailbox : List ℕ) (octets : ℕ) (flags : Flags) (number : ℕ)
+    → reply opened history (Deliver mailbox octets flags) ≡ Delivered number
+    → (root : ℕ) → governs_at opened.roots root mailbox ≡ true
+    → AreWithin
+    (limits_at (account_at opened (history ++ entry_of caller (Deliver mailbox octets flags) false ∷ [])).limits root)
+    (totals_at (usages opened.roots (account_at opened (history ++ entry_of caller (Deliver mailbox octets flags) false ∷ []))) root)
+
+abbrev pub IsOver : Reply → Type 0
+IsOver given = (root : ℕ) × (resource : Resource) × (given ≡ Over root resource)
+
+-- A delivery to a mailbox that exists, and a check, are answered that a root would be over exactly where the message does not fit.
+abbrev pub OverWhereNoFit : Type 0
+OverWhereNoFit =
+    (opened : Opened) (history : List Entry) (octets : ℕ)
+    → ((mailbox : List ℕ) (flags : Flags) → has_mailbox (account_at opened history) mailbox ≡ true
+        → (IsOver (reply opened history (Deliver mailbox octets flags)) ↔ ¬ FitsIn opened history mailbox octets))
+    × (IsOver (reply opened history (Check octets)) ↔ ¬ FitsIn opened history (codes "INBOX") octets)

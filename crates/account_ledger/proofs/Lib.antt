@@ -1,0 +1,12 @@
+pub mod ScanLemmas
+pub mod Changing
+pub mod SettleLemmas
+pub mod Sums
+pub mod UsageLemmas
+pub mod Keeping
+pub mod Replying
+pub mod Stating
+pub mod Answering
+pub mod Entering
+pub mod OpenLemmas
+pub mod Opened

@@ -1,0 +1,7 @@
+use Rattle.std.proofs.Common.{◌≡◌, map}
+use Rattle.quota_roots.proofs.GoverningLemmas.{governing_below}
+use Rattle.account_ledger.specs.Rows.{kept_row}
+use Rattle.account_ledger.proofs.rows.rows_of.Given as goal
+
+abbrev pub invariant-loop-root : goal.invariant-loop-root
+invariant-loop-root l = l.rows ≡ map (kept_row l.limits l.books) (governing_below l.roots l.mailbox l.root)

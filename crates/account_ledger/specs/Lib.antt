@@ -1,0 +1,11 @@
+pub mod Messages
+pub mod Scans
+pub mod Scanning
+pub mod Ledgers
+pub mod Settling
+pub mod Opening
+pub mod States
+pub mod Rows
+pub mod Order
+pub mod Faults
+pub mod Serving

@@ -1,0 +1,39 @@
+-- The messages that the files of an account's mailboxes tell.
+use Rattle.std.specs.Prelude.{◌≡◌, ℕ, Bool, ◌&&◌, if◌then◌else◌, List, map, sum_by, bytes_eq}
+use Rattle.std.specs.List.{flat_map}
+use Rattle.keeper.specs.Files.{Row, listed}
+use Rattle.keeper.specs.declared.rows.FileRow.{FileRow}
+use Rattle.message_names.specs.Messages.{message_of}
+use Rattle.account_core.specs.Account.{Account, Message}
+
+-- the message that a file of a mailbox tells
+abbrev pub message_in : List ℕ → FileRow → Message
+message_in mailbox file = record {
+  mailbox = mailbox;
+  base = (message_of file.name file.length).base;
+  octets = (message_of file.name file.length).octets;
+  flags = (message_of file.name file.length).flags;
+}
+
+-- those of a mailbox
+abbrev pub messages_of : List Row → List ℕ → List Message
+messages_of rows mailbox = map (message_in mailbox) (listed mailbox rows)
+
+-- those of these mailboxes: mailbox by mailbox, and each mailbox's in the order of its files
+abbrev pub messages_in : List (List ℕ) → List Row → List Message
+messages_in mailboxes rows = flat_map (messages_of rows) mailboxes
+
+-- the same messages, in whatever order: any number told of each message adds up to as much over both
+abbrev pub AreSame : List Message → List Message → Type 0
+AreSame messages others = (weight : Message → ℕ) → sum_by weight messages ≡ sum_by weight others
+
+-- the files in the account's mailboxes and its messages correspond one to one
+abbrev pub StandFor : List Row → Account → Type 0
+StandFor rows account = AreSame (messages_in account.mailboxes rows) account.messages
+
+abbrev pub is_message : List ℕ → List ℕ → Message → Bool
+is_message mailbox base message = bytes_eq message.mailbox mailbox && bytes_eq message.base base
+
+-- how many of the messages are of this mailbox and base
+abbrev pub how_many : List ℕ → List ℕ → List Message → ℕ
+how_many mailbox base messages = sum_by (λ m. if is_message mailbox base m then 1 else 0) messages

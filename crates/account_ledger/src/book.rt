@@ -1,0 +1,18 @@
+use quota_units::Totals;
+
+/// Whether the ledger of a quota root is known to be right.
+#[derive(Clone, Copy, Debug, PartialEq, Eq)]
+pub enum Standing {
+    /// The ledger is the written text of the root's limits and of pairs that add up to its usage.
+    Settled,
+    /// Nothing is known of the ledger: the account was just opened, or a write of the ledger failed.
+    Doubt,
+}
+
+/// What is kept of a quota root: its usage and the length of its ledger in bytes, where it is settled.
+#[derive(Clone, Copy, Debug)]
+pub(crate) struct Book {
+    pub(crate) totals: Totals,
+    pub(crate) standing: Standing,
+    pub(crate) length: usize,
+}

@@ -1,0 +1,29 @@
+ghost use Rattle.std.specs.Prelude.{◌≡◌, ℕ, Option};
+ghost use Rattle.quota_units.specs.declared.resource.Resource.{Resource};
+ghost use Rattle.account_core.specs.Machine.{over_or};
+ghost use Rattle.account_ledger.specs.Faults.{step_error};
+ghost use Rattle.account_ledger.specs.Rows.{IsVerdict};
+
+use account_core::{Reply, StepError};
+use admission::Verdict;
+use keeper::KeepError;
+
+/// Why a call is not replied to, by what the keeper answered.
+pub(crate) fn step_error(fault: KeepError) -> StepError
+    ensures { result ≡ step_error fault }
+{
+    match fault {
+        KeepError::NoMemory => StepError::NoMemory,
+        KeepError::Failed => StepError::Store,
+    }
+}
+
+/// What a check is answered, by the verdict on its message.
+pub(crate) fn check_reply(verdict: Verdict) -> Reply
+    ensures { (over : Option (ℕ × Resource)) → IsVerdict over verdict → result ≡ over_or over Reply.Fits }
+{
+    match verdict {
+        Verdict::Fits => Reply::Fits,
+        Verdict::Over { root, resource } => Reply::Over { root, resource },
+    }
+}

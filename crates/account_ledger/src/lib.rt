@@ -1,0 +1,17 @@
+//! An account over a keeper: its files, its ledgers and its history are kept in step.
+#![tactic(auto)]
+
+mod book;
+mod fault;
+mod open;
+mod rows;
+mod scan;
+mod settle;
+mod state;
+
+pub use book::Standing;
+pub use open::{OpenError, OpenFault};
+pub use state::AccountState;
+
+#[cfg(test)]
+mod tests;
