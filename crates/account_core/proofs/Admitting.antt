@@ -131,8 +131,8 @@ module _ (opened : Opened) (history : List Entry) (caller : ℕ) (mailbox : List
       let fits = All-contains (λ r. fits_root (limits_at before.limits r) (totals_at (usages opened.roots before) r) octets ≡ true) (governing opened.roots mailbox) root each ((governing_members opened.roots mailbox root).1 governed) in
       let had = totals_at-usages opened.roots before root d inside in
       let has : totals_at (usages opened.roots after) root ≡ record { octets = (usage spec before).octets + octets; count = (usage spec before).count + 1 } =
-          totals_at-usages opened.roots after root d inside ∙ ap (λ (a : Account). usage spec a) (after_is number given)
-          ∙ usage_push spec before message (sym (governs_at_get_or opened.roots mailbox root d inside) ∙ governed) in
+      totals_at-usages opened.roots after root d inside ∙ ap (λ (a : Account). usage spec a) (after_is number given)
+      ∙ usage_push spec before message (sym (governs_at_get_or opened.roots mailbox root d inside) ∙ governed) in
       let kept : after.limits ≡ before.limits = ap (λ (a : Account). a.limits) (after_is number given) in
       within_from _ _ _ _ _ octets had (ap (λ ls. limits_at ls root) kept) has fits
 

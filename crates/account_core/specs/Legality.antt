@@ -65,5 +65,5 @@ abbrev pub OverWhereNoFit : Type 0
 OverWhereNoFit =
     (opened : Opened) (history : List Entry) (octets : ℕ)
     → ((mailbox : List ℕ) (flags : Flags) → has_mailbox (account_at opened history) mailbox ≡ true
-        → (IsOver (reply opened history (Deliver mailbox octets flags)) ↔ ¬ FitsIn opened history mailbox octets))
+    → (IsOver (reply opened history (Deliver mailbox octets flags)) ↔ ¬ FitsIn opened history mailbox octets))
     × (IsOver (reply opened history (Check octets)) ↔ ¬ FitsIn opened history (codes "INBOX") octets)

@@ -16,13 +16,22 @@ pub enum Call {
         flags: Flags,
     },
     /// Whether INBOX would take a message of so many octets.
-    Check { octets: u64 },
+    Check {
+        octets: u64,
+    },
     /// The usage and the limits of the root of this name.
-    Quota { root: Name },
+    Quota {
+        root: Name,
+    },
     /// The root of this name has these limits from now on; those that are not set here are removed.
-    SetLimits { root: Name, limits: Limits },
+    SetLimits {
+        root: Name,
+        limits: Limits,
+    },
     /// The roots that govern the mailbox of this name, which need not exist.
-    Roots { mailbox: Name },
+    Roots {
+        mailbox: Name,
+    },
 }
 
 /// A root's number, its usage in octets and messages, and its limits.
