@@ -1,5 +1,5 @@
 -- What texts that may stand at their keys are.
-use Rattle.std.proofs.Common.{◌≡◌, ℕ, suc, ◌+◌, ◌≤◌, Bool, true, false, not, ◌&&◌, cond, List, [], ◌∷◌, length, map, codes, bytes_eq, nat_eq, ltb, ltb-false, lt-ltb, le-ltb, Option, None, Some, is_some, unwrap_or, option_map, position, arith, refl, ◌∙◌, sym, ap, inl, inr}
+use Rattle.std.proofs.Common.{◌≡◌, ℕ, suc, ◌+◌, ◌≤◌, Bool, true, false, not, ◌&&◌, cond, List, [], ◌∷◌, length, map, codes, bytes_eq, nat_eq, eqb, eq-eqb, ltb, ltb-false, lt-ltb, le-ltb, Option, None, Some, is_some, unwrap_or, option_map, position, arith, refl, ◌∙◌, sym, ap, inl, inr}
 use Rattle.std.specs.List.{list_all, position_or_len, remove}
 use Rattle.std.specs.Option.{option_and_then}
 use Rattle.std.specs.Str.{str_eq_ignore_ascii_case}
@@ -7,7 +7,6 @@ use Rattle.std.proofs.lemmas.Bool.{and_parts, cases_Bool}
 use Rattle.quota_roots.specs.MailboxNames.{canonical}
 use Rattle.quota_roots.specs.RootLists.{is_prefix_at, is_root_name}
 use Rattle.quota_roots.specs.Setups.{is_mailbox}
-use Rattle.quota_roots.proofs.SetupLemmas.{same_bytes}
 use Rattle.toml.specs.Data.{Data, Members, as_str}
 use Rattle.accounts_file.specs.declared.key.Key.{Key}
 use Rattle.accounts_file.specs.declared.key.Key.TheVariants.{Mailboxes, Prefix, RootName}
@@ -44,6 +43,10 @@ some_again (Some x) d h = refl
 pub root_named : (value : Option Data) → optional RootName (option_map (is_text RootName) value) ≡ None → is_root_name (unwrap_or (option_and_then (text_of RootName) value) []) ≡ true
 root_named None h = refl
 root_named (Some value) h = read_right RootName value (judged_good RootName (is_text RootName value) h)
+
+same_bytes : (bytes : List ℕ) → true ≡ bytes_eq bytes bytes
+same_bytes [] = refl
+same_bytes (byte ∷ bytes) = let e : eqb byte byte ≡ true = eq-eqb byte byte refl in rw e (same_bytes bytes)
 
 canonical_twice : (text : List ℕ) → bytes_eq (canonical (canonical text)) (canonical text) ≡ true
 canonical_twice text = elim (cases_Bool (str_eq_ignore_ascii_case text (codes "INBOX"))) [
