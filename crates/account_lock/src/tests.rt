@@ -3,6 +3,7 @@ ghost use Rattle.std.specs.Prelude.{◌≡◌, ◌≢◌, ◌+◌, ◌++◌, [],
 ghost use Rattle.std.specs.Thread.{IsSync};
 ghost use Rattle.account_core.specs.declared.calls.Entry.{Entry};
 ghost use Rattle.account_core.specs.Histories.{CallersBelow};
+ghost use Rattle.account_core.specs.Plain.{IsPlainCall};
 ghost use Rattle.account_lock.specs.Known.{nowhere};
 ghost use Rattle.account_lock.specs.Passes.{IsOf, view};
 
@@ -352,6 +353,7 @@ fn serve<R: Wait>(
 ) -> Result<Reply, StepError>
     requires lock { IsOf lock.now pass.old }
     requires owner { (view pass.old).number ≡ 0 }
+    requires plain { IsPlainCall call }
     ensures lock { IsOf lock.now pass.new }
     ensures owner { (view pass.new).number ≡ 0 }
     ensures own { OnOk result ((view pass.new).own ≡ (view pass.old).own + 1) }
