@@ -1,9 +1,9 @@
 -- From what is kept to what clauses see.
-use Rattle.std.proofs.Common.{◌≡◌, ◌⊎◌, ℕ, ◌<◌, Bool, true, List, length, get_or, Option, Some, None, refl, sym, ap, ◌∙◌, inl, inr, arith}
+use Rattle.std.proofs.Common.{◌≡◌, ◌⊎◌, ℕ, ◌<◌, ◌≤◌, Bool, true, List, length, get_or, Option, Some, None, refl, sym, ap, ◌∙◌, inl, inr, arith}
 use Rattle.std.specs.Prelude.{IfSome}
 use Rattle.std.specs.Option.{option_map}
 use Rattle.std.proofs.Math.ListN.{get_or-map}
-use Rattle.std.proofs.lemmas.List.{length-map, get_or_read}
+use Rattle.std.proofs.lemmas.List.{length-map, get_or_read, get_or_past}
 use Rattle.quota_units.specs.Limiting.{LimitNumbers}
 use Rattle.quota_roots.specs.declared.setup.Setup.{Setup}
 use Rattle.quota_roots.specs.declared.root.RootSpec.{RootSpec}
@@ -14,14 +14,17 @@ use Rattle.account_core.specs.Account.{Account}
 use Rattle.account_core.specs.History.{replay}
 use Rattle.account_ledger.specs.declared.book.Book.{Book}
 use Rattle.account_ledger.specs.declared.book.Standing.{Standing}
-use Rattle.account_ledger.specs.declared.book.Standing.TheVariants.{Settled}
+use Rattle.account_ledger.specs.declared.book.Standing.TheVariants.{Settled, Doubt}
 use Rattle.account_ledger.specs.Settling.{OnFiles, no_book, book_at, standings_of, Settling, SettlesOrStays, Marks, MarksOne}
 use Rattle.account_ledger.specs.Opening.{opening_of, opening_account}
 use Rattle.account_ledger.specs.Scans.{scan}
 use Rattle.admission.specs.Fitting.{limits_at}
 use Rattle.account_ledger.specs.States.{standing_at, usage_at}
 use Rattle.account_ledger.specs.Order.{Holds, InOrder}
-use Rattle.account_ledger.specs.Serving.{SettlesLedgers, IsSettledNow}
+use Rattle.account_ledger.specs.Ledgers.{folded}
+use Rattle.account_ledger.specs.Serving.{SettlesLedgers, IsSettledNow, AreFolded}
+use Rattle.account_ledger.proofs.UsageLemmas.{scan_is_usage}
+use Rattle.std.proofs.lemmas.Bool.{cases_lt}
 use Rattle.std.specs.List.{range_with_len}
 use Rattle.quota_roots.specs.Governing.{governs_at, governing}
 use Rattle.admission.specs.Fitting.{first_over, totals_at}
@@ -134,3 +137,40 @@ pub limits_each : (then now : Option Told) (faults_then faults : ℕ) (setup : S
 limits_each then now faults_then faults setup epoch limits books deliveries history order =
     of_account then now faults_then faults setup epoch limits books deliveries history (λ account. length account.limits ≡ length setup.roots)
     (λ account files holds. ap length holds.limits_are ∙ order.limits_each) order
+
+-- the ledger of a root that is settled now is the folded text of its limits and its usage
+module _ (may : ℕ → Bool) (setup : Setup) (limits : List LimitNumbers) (books books' : List Book) (deliveries entries : ℕ) (account : Account) (files files' : Files)
+    (holds : Holds setup limits books deliveries entries account files) (most : entries ≤ 524288) (each : length limits ≡ length setup.roots) where
+  one_folded : (root : ℕ) → root < length setup.roots
+      → SettlesOrStays (may root) (limits_at limits root) (scan setup.roots root setup.mailboxes files.rows) (book_at books root) (book_at books' root) (ledger_at files root) (ledger_at files' root)
+      → (book_at books root).standing ≡ Doubt → (book_at books' root).standing ≡ Settled
+      → ledger_at files' root ≡ Some (folded (limits_at account.limits root) (usage_at setup.roots root account))
+  one_folded root inside (inl stays) doubt settled = let e : Settled ≡ Doubt = sym settled ∙ ap (λ (b : Book). b.standing) stays.book_is ∙ doubt in absurd (cc)
+  one_folded root inside (inr (is, s)) doubt settled =
+      s.ledger_is ∙ ap (λ u. Some (folded (limits_at limits root) u)) (scan_is_usage setup.roots root inside account setup.mailboxes files.rows holds.mailboxes_are holds.stand entries most holds.bounded holds.few)
+      ∙ ap (λ ls. Some (folded (limits_at ls root) (usage_at setup.roots root account))) (sym holds.limits_are)
+
+  pub each_folded : (length books' ≡ length setup.roots) → Settling may setup.roots limits setup.mailboxes books books' files files'
+      → AreFolded setup.roots account (standings_of books) (standings_of books') files files'
+  each_folded count settling root doubt settled =
+      let now = sym (standing_of books' root) ∙ settled in
+      elim (cases_lt root (length setup.roots)) [
+        | inl inside ↦ one_folded root inside (settling.each root) (sym (standing_of books root) ∙ doubt) now
+        | inr past ↦ let e : Settled ≡ Doubt = sym now ∙ ap (λ (b : Book). b.standing) (get_or_past books' root no_book (omega (arith, past))) in absurd (cc)
+      ]
+
+pub texts_settled : (then now now' : Option Told) (faults_then faults : ℕ) (setup : Setup) (epoch : ℕ) (limits : List LimitNumbers) (books books' : List Book) (deliveries : ℕ) (history : List Entry) (may : ℕ → Bool)
+    → InOrder then now faults_then faults setup epoch limits books deliveries history
+    → Marks may books books' → Changes (OnFiles (Settling may setup.roots limits setup.mailboxes books books')) now now'
+    → IfSome (option_map (λ opening. replay setup.roots opening history) (opening_of setup epoch then)) (λ account. Changes (OnFiles (AreFolded setup.roots account (standings_of books) (standings_of books'))) now now')
+texts_settled then now now' faults_then faults setup epoch limits books books' deliveries history may order marks settling = by then now now' order.held settling
+  where
+    by : (t n n' : Option Told) → Changes (λ x y. Holds setup limits books deliveries (length history) (replay setup.roots (opening_account setup epoch x.files) history) y.files) t n
+        → Changes (OnFiles (Settling may setup.roots limits setup.mailboxes books books')) n n'
+        → IfSome (option_map (λ opening. replay setup.roots opening history) (opening_of setup epoch t)) (λ account. Changes (OnFiles (AreFolded setup.roots account (standings_of books) (standings_of books'))) n n')
+    by None n n' held s = tt
+    by (Some t) None n' held s = absurd held
+    by (Some t) (Some n) None held s = absurd s
+    by (Some t) (Some n) (Some n') held s =
+        each_folded may setup limits books books' deliveries (length history) (replay setup.roots (opening_account setup epoch t.files) history) n.files n'.files held
+        (omega (arith, order.within, order.sound.most_room)) order.limits_each (marks.count ∙ order.books_each) s

@@ -3,6 +3,7 @@ pub mod Scans
 pub mod Scanning
 pub mod Ledgers
 pub mod Settling
+pub mod Lines
 pub mod Opening
 pub mod States
 pub mod Rows

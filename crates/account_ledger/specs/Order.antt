@@ -20,7 +20,7 @@ use Rattle.account_ledger.specs.Scans.{AreSmall}
 use Rattle.account_ledger.specs.Ledgers.{IsRight}
 use Rattle.account_ledger.specs.Settling.{book_at}
 use Rattle.account_ledger.specs.Opening.{opening_account}
-use Rattle.account_ledger.specs.States.{State, account_of, standing_at, usage_at}
+use Rattle.account_ledger.specs.States.{State, account_of, standing_at, length_at, usage_at}
 
 -- No more entries than the journal takes, each of a call that may be served, and no more of them with fault than the keeper has
 -- counted faults since the opening: a count that stands at its end may have met more.
@@ -35,6 +35,7 @@ pub record Agree (s : State) (account : Account) (files : Files) : Type 0 where
   pub apart : (mailbox base : List ℕ) → how_many mailbox base account.messages ≤ 1
   pub right : (root : ℕ) → root < length s.setup.roots → standing_at s.standings root ≡ Settled
       → IsRight (limits_at account.limits root) (usage_at s.setup.roots root account) (ledger_at files root)
+  pub long : (root : ℕ) → root < length s.setup.roots → standing_at s.standings root ≡ Settled → length_at s.lengths root ≡ length (ledger_bytes files root)
 
 pub record IsInOrder (s : State) : Type 0 where
   pub legal : IsLegal s

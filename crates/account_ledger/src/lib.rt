@@ -2,6 +2,7 @@
 #![tactic(auto)]
 
 mod book;
+mod change;
 mod fault;
 mod open;
 mod rows;

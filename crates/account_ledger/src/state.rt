@@ -50,7 +50,7 @@ pub struct AccountState<K: Keeper> {
 impl<K: Keeper> Model for AccountState<K> {
     ghost use Rattle.std.specs.Prelude.{vec_capacity};
     ghost use Rattle.account_ledger.specs.States.{State};
-    ghost use Rattle.account_ledger.specs.Settling.{standings_of};
+    ghost use Rattle.account_ledger.specs.Settling.{standings_of, lengths_of};
     ghost use Rattle.account_ledger.specs.Opening.{opening_of};
     ghost use Rattle.account_ledger.specs.Order.{InOrder};
 
@@ -68,6 +68,7 @@ impl<K: Keeper> Model for AccountState<K> {
       history = a.history.items;
       reserved = vec_capacity a.history;
       standings = standings_of a.books.items;
+      lengths = lengths_of a.books.items;
     } };
 
     ghost invariant = { λ a. InOrder (K.told a.opened.value) (K.told a.keeper) (K.faults a.opened.value) (K.faults a.keeper) a.setup a.epoch a.limits.items a.books.items a.deliveries a.history.items };

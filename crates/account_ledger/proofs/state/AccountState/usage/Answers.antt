@@ -1,7 +1,7 @@
 use Rattle.std.proofs.Common.{◌<◌, sym, length, nat_eq, arith, subst}
 use Rattle.account_ledger.specs.States.{State}
 use Rattle.account_ledger.proofs.Keeping.{order_settled}
-use Rattle.account_ledger.proofs.Stating.{ledgers_settled, marks_each, marks_count, kept_totals, read_totals}
+use Rattle.account_ledger.proofs.Stating.{ledgers_settled, texts_settled, marks_each, marks_count, kept_totals, read_totals}
 use Rattle.account_ledger.proofs.state.AccountState.usage.Goals as goal
 
 pub invariant_of-self : goal.invariant_of-self
@@ -18,6 +18,8 @@ returns-in-Err-clause-settles g c =
     let n = c.settle-settled.new in
     rw (← c.self.view_is) (record {
       files = ledgers_settled (nat_eq c.args.root) s.setup.roots s.limits.items s.setup.mailboxes s.books.items n.books.items (g.K.Keeper.told s.keeper) (g.K.Keeper.told n.keeper) (rw c.deref.ensures.value at c.settle-settled.ensures.files);
+      texts = texts_settled (g.K.Keeper.told s.opened.value) (g.K.Keeper.told s.keeper) (g.K.Keeper.told n.keeper) (g.K.Keeper.faults s.opened.value) (g.K.Keeper.faults s.keeper)
+          s.setup s.epoch s.limits.items s.books.items n.books.items s.deliveries s.history.items (nat_eq c.args.root) c.self.invariant c.settle-settled.ensures.marks (rw c.deref.ensures.value at c.settle-settled.ensures.files);
       count = marks_count (nat_eq c.args.root) s.books.items n.books.items c.settle-settled.ensures.marks;
       each = marks_each (nat_eq c.args.root) s.books.items n.books.items c.settle-settled.ensures.marks;
       appends = c.settle-settled.ensures.appends;
@@ -37,6 +39,8 @@ returns-clause-settles g c =
     let n = c.settle-settled.new in
     rw (← c.self.view_is) (record {
       files = ledgers_settled (nat_eq c.args.root) s.setup.roots s.limits.items s.setup.mailboxes s.books.items n.books.items (g.K.Keeper.told s.keeper) (g.K.Keeper.told n.keeper) (rw c.deref.ensures.value at c.settle-settled.ensures.files);
+      texts = texts_settled (g.K.Keeper.told s.opened.value) (g.K.Keeper.told s.keeper) (g.K.Keeper.told n.keeper) (g.K.Keeper.faults s.opened.value) (g.K.Keeper.faults s.keeper)
+          s.setup s.epoch s.limits.items s.books.items n.books.items s.deliveries s.history.items (nat_eq c.args.root) c.self.invariant c.settle-settled.ensures.marks (rw c.deref.ensures.value at c.settle-settled.ensures.files);
       count = marks_count (nat_eq c.args.root) s.books.items n.books.items c.settle-settled.ensures.marks;
       each = marks_each (nat_eq c.args.root) s.books.items n.books.items c.settle-settled.ensures.marks;
       appends = c.settle-settled.ensures.appends;
