@@ -1,6 +1,7 @@
 pub mod ScanLemmas
 pub mod Changing
 pub mod SettleLemmas
+pub mod LineLemmas
 pub mod Sums
 pub mod UsageLemmas
 pub mod Keeping
@@ -8,5 +9,6 @@ pub mod Replying
 pub mod Stating
 pub mod Answering
 pub mod Entering
+pub mod Served
 pub mod OpenLemmas
 pub mod Opened

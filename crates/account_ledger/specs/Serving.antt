@@ -181,11 +181,27 @@ pub record ServesLedgers (call : Call) (result : Result Reply StepError) (s s' :
   pub calm : result ≢ Err Store → middle.faults ≡ s.faults
   pub writes : WritesBy call result middle s'
 
--- what a call does to the message files: an accepted message is the last of them
-abbrev pub ServesRows : ℕ → Call → List ℕ → Result Reply StepError → List Row → List Row → Type 0
-ServesRows epoch (Deliver mailbox octets flags) bytes (Ok (Delivered number)) rows rows' =
+-- what a call that was replied to does to the message files: an accepted message is the last of them
+abbrev pub RowsFor : ℕ → Call → List ℕ → Reply → List Row → List Row → Type 0
+RowsFor epoch (Deliver mailbox octets flags) bytes (Delivered number) rows rows' =
     rows' ≡ rows ++ record { mailbox = mailbox; name = written_name (delivered_base epoch number) octets flags; octets = bytes } ∷ []
-ServesRows epoch call bytes result rows rows' = rows' ≡ rows
+RowsFor epoch (Deliver mailbox octets flags) bytes given rows rows' = rows' ≡ rows
+RowsFor epoch (Check octets) bytes given rows rows' = rows' ≡ rows
+RowsFor epoch (Quota name) bytes given rows rows' = rows' ≡ rows
+RowsFor epoch (SetLimits name limits) bytes given rows rows' = rows' ≡ rows
+RowsFor epoch (Roots mailbox) bytes given rows rows' = rows' ≡ rows
+
+abbrev pub ServesRows : ℕ → Call → List ℕ → Result Reply StepError → List Row → List Row → Type 0
+ServesRows epoch call bytes (Ok given) rows rows' = RowsFor epoch call bytes given rows rows'
+ServesRows epoch call bytes (Err e) rows rows' = rows' ≡ rows
+
+-- a message has as many octets as the call says; other calls have none
+abbrev pub HasBytes : Call → List ℕ → Type 0
+HasBytes (Deliver mailbox octets flags) bytes = octets ≡ length bytes
+HasBytes (Check octets) bytes = bytes ≡ []
+HasBytes (Quota name) bytes = bytes ≡ []
+HasBytes (SetLimits name limits) bytes = bytes ≡ []
+HasBytes (Roots mailbox) bytes = bytes ≡ []
 
 -- what a call does to a state
 pub record Serves (caller : ℕ) (call : Call) (bytes : List ℕ) (result : Result Reply StepError) (s s' : State) : Type 0 where

@@ -4,6 +4,7 @@
 mod book;
 mod change;
 mod fault;
+mod lines;
 mod open;
 mod rows;
 mod scan;

@@ -1,13 +1,13 @@
 // The state of an account.
-ghost use Rattle.std.specs.Prelude.{◌≡◌, ◌≢◌, ◌<◌, ◌≤◌, ◌+◌, ◌-◌, ◌^◌, ◌↔◌, ◌++◌, ◌∷◌, [], min, ℕ, true, IsTrue, length, nat_eq, codes, IfOk, IfErr, IfSome, OnOk};
+ghost use Rattle.std.specs.Prelude.{◌≡◌, ◌≢◌, ◌<◌, ◌≤◌, ◌+◌, ◌-◌, ◌^◌, ◌↔◌, ◌++◌, ◌∷◌, [], min, ℕ, true, false, IsTrue, length, nat_eq, codes, IfOk, IfErr, IfSome, OnOk};
 ghost use Rattle.quota_roots.specs.RootLists.{place_of};
 ghost use Rattle.admission.specs.Fitting.{limits_at};
 ghost use Rattle.quota_roots.specs.Governing.{governs_at};
 ghost use Rattle.account_core.specs.Machine.{governing_rows, over_in, reply_of};
 ghost use Rattle.account_ledger.specs.Rows.{IsVerdict};
-ghost use Rattle.keeper.specs.Causes.{HasCause};
+ghost use Rattle.keeper.specs.Causes.{HasCause, Rose};
 ghost use Rattle.account_ledger.specs.Order.{IsInOrder};
-ghost use Rattle.account_ledger.specs.Serving.{Opened, OfAccount, SettlesSome, Enters, IsQuestion, Leaves, is_place, needs};
+ghost use Rattle.account_ledger.specs.Serving.{Opened, OfAccount, SettlesSome, Enters, HasBytes, IsQuestion, Leaves, Serves, ServesLedgers, ServesRows, is_place, misses, needs};
 ghost use Rattle.account_core.specs.Legality.{MayBeServed, fault_count};
 ghost use Rattle.account_core.specs.History.{entry_of};
 ghost use Rattle.keeper.specs.Calls.{Changes};
@@ -37,14 +37,14 @@ use std::snapshot::Snapshot;
 /// Contracts see what the keeper tells and counts, what the account was opened with, the history and the standings of the roots.
 #[derive(Drop)]
 pub struct AccountState<K: Keeper> {
-    keeper: K,
-    opened: Snapshot<K>,
-    setup: Setup,
-    epoch: u64,
-    limits: Vec<Limits>,
-    books: Vec<Book>,
-    deliveries: u64,
-    history: Vec<Entry>,
+    pub(crate) keeper: K,
+    pub(crate) opened: Snapshot<K>,
+    pub(crate) setup: Setup,
+    pub(crate) epoch: u64,
+    pub(crate) limits: Vec<Limits>,
+    pub(crate) books: Vec<Book>,
+    pub(crate) deliveries: u64,
+    pub(crate) history: Vec<Entry>,
 }
 
 impl<K: Keeper> Model for AccountState<K> {
@@ -148,16 +148,20 @@ impl<K: Keeper> AccountState<K> {
         self.books[root as usize].standing
     }
 
-    /// Serves a call of this caller: a check, or a question on the quota of a root or on the roots of a mailbox.
+    /// Serves a call of this caller: a delivery, a check, a change of limits, or a question on the quota of a root or on the
+    /// roots of a mailbox.
     ///
-    /// `bytes` are the octets of a delivered message, and empty for these calls.
+    /// `bytes` are the octets of a delivered message, at most 67108864, and empty for the other calls.
+    ///
+    /// A delivery that is accepted writes one line into the ledger of each root of its mailbox, or folds the ledger where there
+    /// is no room. Where that fails the call is answered all the same, and that root is in doubt.
     ///
     /// # Errors
     ///
     /// `JournalFull` exactly where the history holds as many entries as the setup's journal allows; nothing changes then.
-    /// `Store` only where the store failed in this call; the entry has fault then. `NoMemory`: there is no entry.
+    /// `Store` only where the store failed in this call; the entry has fault then, and the messages and the limits are as before.
+    /// `NoMemory`: there is no entry, and the messages and the limits are as before.
     /// After each error a root that was settled still is.
-    #[tactic(auto, using(crate::proofs::Entering::question_leaves, crate::proofs::Entering::question_served, crate::proofs::Entering::excused_more))]
     pub fn serve(
         &mut self,
         alloc: Global,
@@ -166,13 +170,13 @@ impl<K: Keeper> AccountState<K> {
         bytes: &[u8],
     ) -> Result<Reply, StepError>
         requires question { IsQuestion call }
-        requires bytes { bytes.now ≡ [] }
+        requires bytes { HasBytes call bytes.now }
         ensures opened { Opened self.old self.new }
         ensures enters { Enters caller call result self.old.history self.new.history }
         ensures reply { IfOk result (λ given. OfAccount self.old (λ account. given ≡ reply_of self.old.setup.roots account call)) }
-        ensures settled { OnOk result ((root : ℕ) → needs self.old.setup.roots call root ≡ true → standing_at self.new.standings root ≡ Settled) }
-        ensures settles { SettlesSome (needs self.old.setup.roots call) self.old self.new }
-        ensures cause { HasCause (result ≡ Err StepError.Store) self.old.faults self.new.faults }
+        ensures ledgers { ServesLedgers call result self.old self.new }
+        ensures rows { Changes (OnFiles (λ files files'. ServesRows self.old.epoch call bytes.now result files.rows files'.rows)) self.old.told self.new.told }
+        ensures cause { result ≡ Err StepError.Store → Rose self.old.faults self.new.faults }
         ensures full { (limit : ℕ) → (result ≡ Err (StepError.JournalFull limit)) ↔ ((length self.old.history ≡ self.old.setup.journal) × (limit ≡ self.old.setup.journal)) }
         ensures unchanged { (limit : ℕ) → result ≡ Err (StepError.JournalFull limit) → self.new ≡ self.old }
         ensures order { IsInOrder self.new }
@@ -184,17 +188,56 @@ impl<K: Keeper> AccountState<K> {
             });
         }
         self.reserve_entry()?;
-        let answer = self.answer(alloc, &call);
+        let answer = self.enter(alloc, caller, call, bytes);
         self.is_in_order();
+        answer
+    }
+
+    /// Serves a call, for whose entry there is room.
+    fn enter(
+        &mut self,
+        alloc: Global,
+        caller: u32,
+        call: Call,
+        bytes: &[u8],
+    ) -> Result<Reply, StepError>
+        requires question { IsQuestion call }
+        requires bytes { HasBytes call bytes.now }
+        requires room { length self.old.history < self.old.setup.journal }
+        requires held { length self.old.history < self.old.reserved }
+        ensures serves { Serves caller call bytes.now result self.old self.new }
+        ensures never_full { (limit : ℕ) → result ≢ Err (StepError.JournalFull limit) }
+    {
+        match call {
+            Call::Deliver { .. } | Call::SetLimits { .. } => unreachable!(),
+            question => self.ask(alloc, caller, question, bytes),
+        }
+    }
+
+    /// Answers a question, and enters it.
+    #[tactic(auto, using(crate::proofs::Entering::question_leaves, crate::proofs::Entering::question_served, crate::proofs::Entering::excused_more))]
+    fn ask(
+        &mut self,
+        alloc: Global,
+        caller: u32,
+        call: Call,
+        bytes: &[u8],
+    ) -> Result<Reply, StepError>
+        requires question { IsQuestion call }
+        requires room { length self.old.history < self.old.setup.journal }
+        requires held { length self.old.history < self.old.reserved }
+        ensures serves { Serves caller call bytes.now result self.old self.new }
+        ensures never_full { (limit : ℕ) → result ≢ Err (StepError.JournalFull limit) }
+    {
+        self.is_in_order();
+        let answer = self.answer(alloc, &call);
         match answer {
             Ok(reply) => {
                 self.note(caller, call, false);
-                self.is_in_order();
                 Ok(reply)
             }
             Err(StepError::Store) => {
                 self.note(caller, call, true);
-                self.is_in_order();
                 Err(StepError::Store)
             }
             Err(fault) => Err(fault),
@@ -248,6 +291,7 @@ impl<K: Keeper> AccountState<K> {
         ensures reply { IfOk result (λ given. OfAccount self.old (λ account. given ≡ reply_of self.old.setup.roots account call.now)) }
         ensures settled { OnOk result ((root : ℕ) → needs self.old.setup.roots call.now root ≡ true → standing_at self.new.standings root ≡ Settled) }
         ensures settles { SettlesSome (needs self.old.setup.roots call.now) self.old self.new }
+        ensures missed { IfOk result (λ given. misses given ≡ true → (root : ℕ) → needs self.old.setup.roots call.now root ≡ false) }
         ensures cause { HasCause (result ≡ Err StepError.Store) self.old.faults self.new.faults }
         ensures never_full { (limit : ℕ) → result ≢ Err (StepError.JournalFull limit) }
     {
@@ -348,6 +392,7 @@ impl<K: Keeper> AccountState<K> {
         ensures reply { IfOk result (λ given. OfAccount self.old (λ account. given ≡ reply_of self.old.setup.roots account (Call.Quota name.now))) }
         ensures settled { OnOk result ((root : ℕ) → is_place (place_of self.old.setup.roots name.now) root ≡ true → standing_at self.new.standings root ≡ Settled) }
         ensures settles { SettlesSome (is_place (place_of self.old.setup.roots name.now)) self.old self.new }
+        ensures missed { IfOk result (λ given. misses given ≡ true → (root : ℕ) → is_place (place_of self.old.setup.roots name.now) root ≡ false) }
         ensures cause { HasCause (result ≡ Err StepError.Store) self.old.faults self.new.faults }
         ensures never_full { (limit : ℕ) → result ≢ Err (StepError.JournalFull limit) }
     {
@@ -373,6 +418,7 @@ impl<K: Keeper> AccountState<K> {
         ensures reply { IfOk result (λ given. OfAccount self.old (λ account. given ≡ reply_of self.old.setup.roots account (Call.Roots mailbox.now))) }
         ensures settled { OnOk result ((root : ℕ) → governs_at self.old.setup.roots root mailbox.now ≡ true → standing_at self.new.standings root ≡ Settled) }
         ensures settles { SettlesSome (λ root. governs_at self.old.setup.roots root mailbox.now) self.old self.new }
+        ensures there { IfOk result (λ given. misses given ≡ false) }
         ensures cause { HasCause (result ≡ Err StepError.Store) self.old.faults self.new.faults }
         ensures never_full { (limit : ℕ) → result ≢ Err (StepError.JournalFull limit) }
     {
@@ -390,6 +436,7 @@ impl<K: Keeper> AccountState<K> {
         ensures reply { IfOk result (λ given. OfAccount self.old (λ account. given ≡ reply_of self.old.setup.roots account (Call.Check octets))) }
         ensures settled { OnOk result ((root : ℕ) → governs_at self.old.setup.roots root (codes "INBOX") ≡ true → standing_at self.new.standings root ≡ Settled) }
         ensures settles { SettlesSome (λ root. governs_at self.old.setup.roots root (codes "INBOX")) self.old self.new }
+        ensures there { IfOk result (λ given. misses given ≡ false) }
         ensures cause { HasCause (result ≡ Err StepError.Store) self.old.faults self.new.faults }
         ensures never_full { (limit : ℕ) → result ≢ Err (StepError.JournalFull limit) }
     {
