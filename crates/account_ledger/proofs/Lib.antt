@@ -3,8 +3,10 @@ pub mod Changing
 pub mod SettleLemmas
 pub mod LineLemmas
 pub mod Sums
+pub mod Weighing
 pub mod UsageLemmas
 pub mod Keeping
+pub mod Posting
 pub mod Replying
 pub mod Stating
 pub mod Answering

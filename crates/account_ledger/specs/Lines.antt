@@ -92,10 +92,14 @@ abbrev pub ChangedLedger : Change → ℕ → LimitNumbers → Book → Option (
 ChangedLedger change octets limits book ledger standing ledger' =
     LineLedger (has_room book.length (line_by change octets)) (line_by change octets) (folded limits (totals_by change octets book.totals)) ledger standing ledger'
 
+-- where there is no room for the line, the folded text is short
+abbrev pub FoldsShort : Change → ℕ → LimitNumbers → Book → Type 0
+FoldsShort change octets limits book = has_room book.length (line_by change octets) ≡ false → length (folded limits (totals_by change octets book.totals)) < 5120
+
 -- what is kept of a root: that of a settled root whose usage changes, and no other
 abbrev pub BookBy : Standing → Change → ℕ → LimitNumbers → Book → Book → Type 0
 BookBy Doubt change octets limits book book' = book' ≡ book
-BookBy Settled change octets limits book book' = book' ≡ changed_book change octets limits book book'.standing
+BookBy Settled change octets limits book book' = (book' ≡ changed_book change octets limits book book'.standing) × FoldsShort change octets limits book
 
 abbrev pub BookLined : Option Change → ℕ → LimitNumbers → Book → Book → Type 0
 BookLined None octets limits book book' = book' ≡ book

@@ -6,7 +6,7 @@ ghost use Rattle.keeper.specs.Files.{ledger_at, ledger_bytes};
 ghost use Rattle.keeper.specs.Calls.{Changes, OneLedger};
 ghost use Rattle.account_ledger.specs.declared.book.Standing.TheVariants.{Settled};
 ghost use Rattle.account_ledger.specs.Ledgers.{folded};
-ghost use Rattle.account_ledger.specs.Lines.{HasCauses, BookLined, BooksLined, LedgerLined, LedgersLined, fell_below, change_at, LineLedger, ChangedLedger, changed_book, fallen_by, fallen_at, has_room, line_by, lined_book};
+ghost use Rattle.account_ledger.specs.Lines.{HasCauses, FoldsShort, BookLined, BooksLined, LedgerLined, LedgersLined, fell_below, change_at, LineLedger, ChangedLedger, changed_book, fallen_by, fallen_at, has_room, line_by, lined_book};
 ghost use Rattle.account_ledger.specs.Scans.{AreSmall};
 ghost use Rattle.account_ledger.specs.Settling.{OnFiles, book_at};
 
@@ -62,6 +62,7 @@ fn fold<K: Keeper>(
     requires kept { AreSmall book.totals }
     requires small { AreSmall totals }
     ensures small { AreSmall result.totals }
+    ensures short { length (folded limits.now totals) < 5120 }
     ensures book { (line : List ℕ) → has_room book.length line ≡ false → result ≡ lined_book line (folded limits.now totals) totals book result.standing }
     ensures files { (line : List ℕ) → Changes (OnFiles (λ files files'. OneLedger root files files' × LineLedger false line (folded limits.now totals) (ledger_at files root) result.standing (ledger_at files' root))) (K.told keeper.old) (K.told keeper.new) }
     ensures faults { HasCauses (fallen_by false false result.standing) (K.faults keeper.old) (K.faults keeper.new) }
@@ -98,6 +99,7 @@ fn post<K: Keeper>(
     requires octets { octets < 1000000000000000000 }
     requires long { IfSome (K.told keeper.old) (λ t. length (ledger_bytes t.files root) ≡ book.length) }
     ensures book { result ≡ changed_book change octets limits.now book result.standing }
+    ensures short { FoldsShort change octets limits.now book }
     ensures small { AreSmall result.totals }
     ensures files { Changes (OnFiles (λ files files'. OneLedger root files files' × ChangedLedger change octets limits.now book (ledger_at files root) result.standing (ledger_at files' root))) (K.told keeper.old) (K.told keeper.new) }
     ensures faults { HasCauses (fallen_by false (has_room book.length (line_by change octets)) result.standing) (K.faults keeper.old) (K.faults keeper.new) }
