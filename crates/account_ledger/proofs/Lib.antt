@@ -7,6 +7,8 @@ pub mod Weighing
 pub mod UsageLemmas
 pub mod Keeping
 pub mod Posting
+pub mod Shifting
+pub mod Bases
 pub mod Replying
 pub mod Stating
 pub mod Answering

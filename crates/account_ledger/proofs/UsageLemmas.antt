@@ -13,10 +13,10 @@ use Rattle.account_ledger.specs.Scans.{cut, scan, scanned_octets, scanned_count,
 use Rattle.account_ledger.specs.States.{usage_at}
 use Rattle.account_ledger.proofs.Sums.{same_sums, sum_map, sum_flat_map, sum_ones, sum_where}
 
-abbrev no_root : RootSpec
+abbrev pub no_root : RootSpec
 no_root = record { name = []; prefix = None }
 
-at_most : (b : Bool) (n : ℕ) → cond b n 0 ≤ n
+pub at_most : (b : Bool) (n : ℕ) → cond b n 0 ≤ n
 at_most true n = omega arith
 at_most false n = omega arith
 
