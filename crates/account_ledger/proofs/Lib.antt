@@ -13,6 +13,7 @@ pub mod Replying
 pub mod Stating
 pub mod Answering
 pub mod Entering
+pub mod Ordering
 pub mod Served
 pub mod OpenLemmas
 pub mod Opened
