@@ -10,3 +10,5 @@ pub mod Answering
 pub mod Entering
 pub mod OpenLemmas
 pub mod Opened
+pub mod Limiting
+pub mod Setting

@@ -4,6 +4,7 @@
 mod book;
 mod change;
 mod fault;
+mod limits;
 mod open;
 mod rows;
 mod scan;

@@ -37,14 +37,14 @@ use std::snapshot::Snapshot;
 /// Contracts see what the keeper tells and counts, what the account was opened with, the history and the standings of the roots.
 #[derive(Drop)]
 pub struct AccountState<K: Keeper> {
-    keeper: K,
-    opened: Snapshot<K>,
-    setup: Setup,
-    epoch: u64,
-    limits: Vec<Limits>,
-    books: Vec<Book>,
-    deliveries: u64,
-    history: Vec<Entry>,
+    pub(crate) keeper: K,
+    pub(crate) opened: Snapshot<K>,
+    pub(crate) setup: Setup,
+    pub(crate) epoch: u64,
+    pub(crate) limits: Vec<Limits>,
+    pub(crate) books: Vec<Book>,
+    pub(crate) deliveries: u64,
+    pub(crate) history: Vec<Entry>,
 }
 
 impl<K: Keeper> Model for AccountState<K> {
@@ -224,7 +224,7 @@ impl<K: Keeper> AccountState<K> {
     }
 
     /// Enters a call that leaves the account. It takes no memory.
-    fn note(&mut self, caller: u32, call: Call, fault: bool)
+    pub(crate) fn note(&mut self, caller: u32, call: Call, fault: bool)
         requires room { length self.old.history < self.old.setup.journal }
         requires held { length self.old.history < self.old.reserved }
         requires served { MayBeServed call }
@@ -400,14 +400,14 @@ impl<K: Keeper> AccountState<K> {
 
     /// The account has limits for each of its roots.
     #[tactic(auto, using(crate::proofs::Stating::limits_each))]
-    fn has_limits(&self) -> bool
+    pub(crate) fn has_limits(&self) -> bool
         ensures { OfAccount self.now (λ account. length account.limits ≡ length self.now.setup.roots) }
     {
         self.limits.is_empty()
     }
 
     /// The number of the root of this name.
-    fn find_root(&self, name: &[u8]) -> Option<u32>
+    pub(crate) fn find_root(&self, name: &[u8]) -> Option<u32>
         ensures place { result ≡ place_of self.now.setup.roots name.now }
         ensures inside { IfSome result (λ root. root < length self.now.setup.roots) }
     {
