@@ -39,7 +39,7 @@ right_folded limits usage ledger octets count text short = record {
   sums = sum_of_one usage;
 }
 
-kept_folded : (limits : LimitNumbers) (usage scanned : Totals) (ledger : Option (List ℕ)) (book : Book) → scanned ≡ usage → scanned.octets < 2 ^ 63 → scanned.count < 2 ^ 63
+pub kept_folded : (limits : LimitNumbers) (usage scanned : Totals) (ledger : Option (List ℕ)) (book : Book) → scanned ≡ usage → scanned.octets < 2 ^ 63 → scanned.count < 2 ^ 63
     → book ≡ folded_book limits scanned → ledger ≡ Some (folded limits scanned) → length (folded limits scanned) < 5120 → IsKept limits usage ledger (bytes_of ledger) book
 kept_folded limits usage scanned ledger book same octets count book_is text short = record {
   totals = ap (λ (b : Book). b.totals) book_is ∙ same;

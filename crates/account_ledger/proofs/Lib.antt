@@ -18,3 +18,5 @@ pub mod Lined
 pub mod Served
 pub mod OpenLemmas
 pub mod Opened
+pub mod Limiting
+pub mod Setting

@@ -4,6 +4,7 @@
 mod book;
 mod change;
 mod fault;
+mod limits;
 mod lines;
 mod open;
 mod rows;

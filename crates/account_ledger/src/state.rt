@@ -267,7 +267,7 @@ impl<K: Keeper> AccountState<K> {
     }
 
     /// Enters a call that leaves the account. It takes no memory.
-    fn note(&mut self, caller: u32, call: Call, fault: bool)
+    pub(crate) fn note(&mut self, caller: u32, call: Call, fault: bool)
         requires room { length self.old.history < self.old.setup.journal }
         requires held { length self.old.history < self.old.reserved }
         requires served { MayBeServed call }
@@ -447,14 +447,14 @@ impl<K: Keeper> AccountState<K> {
 
     /// The account has limits for each of its roots.
     #[tactic(auto, using(crate::proofs::Stating::limits_each))]
-    fn has_limits(&self) -> bool
+    pub(crate) fn has_limits(&self) -> bool
         ensures { OfAccount self.now (λ account. length account.limits ≡ length self.now.setup.roots) }
     {
         self.limits.is_empty()
     }
 
     /// The number of the root of this name.
-    fn find_root(&self, name: &[u8]) -> Option<u32>
+    pub(crate) fn find_root(&self, name: &[u8]) -> Option<u32>
         ensures place { result ≡ place_of self.now.setup.roots name.now }
         ensures inside { IfSome result (λ root. root < length self.now.setup.roots) }
     {
