@@ -1,5 +1,5 @@
 -- Entries that leave the account.
-use Rattle.std.proofs.Common.{◌≡◌, ℕ, ◌+◌, ◌<◌, ◌≤◌, ◌-◌, ◌^◌, min, Bool, true, false, cond, List, [], ◌∷◌, ◌++◌, length, Option, refl, sym, ◌∙◌, subst, arith}
+use Rattle.std.proofs.Common.{◌≡◌, ℕ, ◌+◌, ◌<◌, ◌≤◌, ◌-◌, ◌^◌, min, Bool, true, false, cond, List, [], ◌∷◌, ◌++◌, length, Option, Some, None, refl, sym, ◌∙◌, subst, arith}
 use Rattle.std.proofs.lemmas.List.{length_push}
 use Rattle.std.proofs.lemmas.List.Sums.{sum_by_push}
 use Rattle.quota_units.specs.Limiting.{LimitNumbers}
@@ -16,20 +16,34 @@ use Rattle.account_core.specs.History.{replay, entry_of}
 use Rattle.account_core.specs.Legality.{MayBeServed, AreServed, fault_count}
 use Rattle.account_core.proofs.Replaying.{replay_more}
 use Rattle.account_ledger.specs.declared.book.Book.{Book}
-use Rattle.account_ledger.specs.Opening.{opening_account}
+use Rattle.account_ledger.specs.Opening.{opening_account, opening_of}
 use Rattle.account_ledger.specs.Order.{Holds, InOrder}
-use Rattle.account_ledger.specs.Serving.{IsQuestion, Leaves}
-use Rattle.account_ledger.proofs.Changing.{changes_weaken}
+use Rattle.account_ledger.specs.Serving.{IsQuestion, Leaves, OfAccount}
+use Rattle.account_ledger.specs.States.{State, account_of}
+use Rattle.std.specs.Prelude.{IfSome}
+use Rattle.std.specs.Option.{option_map}
+use Rattle.keeper.specs.Calls.{Changes}
 
-pub question_leaves : (roots : List RootSpec) (call : Call) (fault : Bool) → IsQuestion call → Leaves roots call fault
-question_leaves roots (Deliver mailbox octets flags) fault question account = absurd question
-question_leaves roots (SetLimits name limits) fault question account = absurd question
-question_leaves roots (Check octets) true question account = refl
-question_leaves roots (Check octets) false question account = refl
-question_leaves roots (Quota name) true question account = refl
-question_leaves roots (Quota name) false question account = refl
-question_leaves roots (Roots mailbox) true question account = refl
-question_leaves roots (Roots mailbox) false question account = refl
+one_leaves : (roots : List RootSpec) (call : Call) (fault : Bool) → IsQuestion call → (account : Account) → Leaves roots call fault account
+one_leaves roots (Deliver mailbox octets flags) fault question account = absurd question
+one_leaves roots (SetLimits name limits) fault question account = absurd question
+one_leaves roots (Check octets) true question account = refl
+one_leaves roots (Check octets) false question account = refl
+one_leaves roots (Quota name) true question account = refl
+one_leaves roots (Quota name) false question account = refl
+one_leaves roots (Roots mailbox) true question account = refl
+one_leaves roots (Roots mailbox) false question account = refl
+
+pub of_every : {X : Type 0} (P : X → Type 0) → ((x : X) → P x) → (o : Option X) → IfSome o P
+of_every P all None = tt
+of_every P all (Some x) = all x
+
+pub question_leaves : (s : State) (call : Call) (fault : Bool) → IsQuestion call → OfAccount s (Leaves s.setup.roots call fault)
+question_leaves s call fault question = of_every (Leaves s.setup.roots call fault) (one_leaves s.setup.roots call fault question) (account_of s)
+
+-- an entry with fault leaves the account
+pub fault_leaves : (s : State) (call : Call) → OfAccount s (Leaves s.setup.roots call true)
+fault_leaves s call = of_every (Leaves s.setup.roots call true) (λ account. refl) (account_of s)
 
 pub question_served : (call : Call) → IsQuestion call → MayBeServed call
 question_served (Deliver mailbox octets flags) question = absurd question
@@ -71,7 +85,7 @@ holds_noted setup limits books deliveries entries account account' files same ho
 
 pub order_noted : (then now : Option Told) (faults_then faults : ℕ) (setup : Setup) (epoch : ℕ) (limits : List LimitNumbers) (books : List Book) (deliveries : ℕ) (history : List Entry) (caller : ℕ) (call : Call) (fault : Bool)
     → InOrder then now faults_then faults setup epoch limits books deliveries history
-    → length history < setup.journal → MayBeServed call → Leaves setup.roots call fault
+    → length history < setup.journal → MayBeServed call → IfSome (option_map (λ opening. replay setup.roots opening history) (opening_of setup epoch then)) (Leaves setup.roots call fault)
     → min (faults_then + fault_count (history ++ entry_of caller call fault ∷ [])) (2 ^ 64 - 1) ≤ faults
     → InOrder then now faults_then faults setup epoch limits books deliveries (history ++ entry_of caller call fault ∷ [])
 order_noted then now faults_then faults setup epoch limits books deliveries history caller call fault order room served leaves excused =
@@ -86,9 +100,15 @@ order_noted then now faults_then faults setup epoch limits books deliveries hist
       limits_each = order.limits_each;
       books_each = order.books_each;
       small = order.small;
-      held = changes_weaken _ _
-          (λ x y holds. subst (λ n. Holds setup limits books deliveries n (replay setup.roots (opening_account setup epoch x.files) (history ++ entry ∷ [])) y.files) (sym long)
-          (holds_noted setup limits books deliveries (length history) _ _ y.files
-          (replay_more setup.roots (opening_account setup epoch x.files) history entry ∙ leaves (replay setup.roots (opening_account setup epoch x.files) history)) holds))
-          then now order.held;
+      held = by then now order.held leaves;
     }
+  where
+    by : (t n : Option Told) → Changes (λ x y. Holds setup limits books deliveries (length history) (replay setup.roots (opening_account setup epoch x.files) history) y.files) t n
+        → IfSome (option_map (λ opening. replay setup.roots opening history) (opening_of setup epoch t)) (Leaves setup.roots call fault)
+        → Changes (λ x y. Holds setup limits books deliveries (length (history ++ entry_of caller call fault ∷ [])) (replay setup.roots (opening_account setup epoch x.files) (history ++ entry_of caller call fault ∷ [])) y.files) t n
+    by None None held leaves = tt
+    by None (Some n) held leaves = absurd held
+    by (Some t) None held leaves = absurd held
+    by (Some t) (Some n) held leaves =
+        rw (length_push history (entry_of caller call fault))
+        (holds_noted setup limits books deliveries (length history) _ _ n.files (replay_more setup.roots (opening_account setup epoch t.files) history (entry_of caller call fault) ∙ leaves) held)

@@ -14,6 +14,7 @@ pub mod Stating
 pub mod Answering
 pub mod Entering
 pub mod Ordering
+pub mod Delivering
 pub mod Lined
 pub mod Served
 pub mod OpenLemmas

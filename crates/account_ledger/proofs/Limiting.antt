@@ -31,7 +31,8 @@ use Rattle.account_ledger.specs.Opening.{opening_account, opening_of}
 use Rattle.account_ledger.specs.States.{usage_at}
 use Rattle.account_ledger.specs.Order.{IsKept, Holds, InOrder}
 use Rattle.account_ledger.proofs.Changing.{changes_then}
-use Rattle.account_ledger.proofs.Entering.{excused_still, excused_more, order_noted, served_more}
+use Rattle.account_ledger.specs.Serving.{Leaves}
+use Rattle.account_ledger.proofs.Entering.{excused_still, excused_more, order_noted, served_more, of_every}
 use Rattle.account_ledger.proofs.Keeping.{kept_folded}
 use Rattle.account_ledger.proofs.Replying.{limits_some}
 use Rattle.account_ledger.proofs.Stating.{of_account}
@@ -103,7 +104,7 @@ module _ (then now now' : Option Told) (faults_then faults faults' : ℕ) (setup
             (λ x y z held e. subst (λ f. Holds setup limits books deliveries (length history) (replay setup.roots (opening_account setup epoch x.files) history) f) (sym e) held)
             then now now' order.held same;
       })
-      room tt (λ account. refl) (excused_more faults_then faults faults' history caller (SetLimits name new) order.excused rose)
+      room tt (of_every (Leaves setup.roots (SetLimits name new) true) (λ account. refl) _) (excused_more faults_then faults faults' history caller (SetLimits name new) order.excused rose)
 
   module _ (root : ℕ) (totals : Totals) (place : place_of setup.roots name ≡ Some root) (inside : root < length setup.roots)
       (settled : (book_at books root).standing ≡ Settled) (read : totals ≡ (book_at books root).totals) where

@@ -21,7 +21,7 @@ use Rattle.account_ledger.specs.declared.book.Standing.{Standing}
 use Rattle.account_ledger.specs.declared.book.Standing.TheVariants.{Settled, Doubt}
 use Rattle.account_ledger.specs.declared.change.Change.{Change}
 use Rattle.account_ledger.specs.Ledgers.{folded}
-use Rattle.account_ledger.specs.Lines.{change_at, line_by, totals_by, has_room, LineLedger, fallen_at, changed_book, BookBy, LedgerBy, BookLined, LedgerLined, BooksLined, LedgersLined, fell_below}
+use Rattle.account_ledger.specs.Lines.{change_at, line_by, totals_by, has_room, LineLedger, fallen_at, changed_book, BookBy, LedgerBy, BookLined, LedgerLined, BooksLined, LedgersLined, fell_below, HasCauses}
 use Rattle.account_ledger.specs.Opening.{opening_account, opening_of}
 use Rattle.account_ledger.specs.Order.{Holds, InOrder}
 use Rattle.account_ledger.specs.Settling.{OnFiles, no_book, book_at, standings_of, lengths_of}
@@ -69,6 +69,11 @@ module _ (setup : Setup) (changes : ℕ → Option Change) (octets : ℕ) (limit
   pub fell_are : (room : Bool) → fell_below (length setup.roots) room changes octets books books'
       ≡ sum_by (λ root. fallen_at room (changes root) octets (standing_at (standings_of books) root) (length_at (lengths_of books) root) (standing_at (standings_of books') root)) (range_with_len 0 (length setup.roots))
   fell_are room = same_below _ _ (length setup.roots) 0 (λ i low high. rw (standing_of books i, standing_of books' i, length_of books i) refl)
+
+  -- and so many faults were counted
+  pub fell_seen : (room : Bool) (before mid now : ℕ) → mid ≡ before → HasCauses (fell_below (length setup.roots) room changes octets books books') mid now
+      → HasCauses (sum_by (λ root. fallen_at room (changes root) octets (standing_at (standings_of books) root) (length_at (lengths_of books) root) (standing_at (standings_of books') root)) (range_with_len 0 (length setup.roots))) before now
+  fell_seen room before mid now same causes = subst (λ n. HasCauses n before now) (fell_are room) (subst (λ b. HasCauses (fell_below (length setup.roots) room changes octets books books') b now) same causes)
 
 -- ledgers
 text_swap : (room : Bool) (line text text1 : List ℕ) (ledger ledger' : Option (List ℕ)) (standing' : Standing) → (room ≡ false → standing' ≡ Settled → text ≡ text1)

@@ -21,6 +21,7 @@ use Rattle.account_ledger.specs.Opening.{opening_account, opening_of}
 use Rattle.account_ledger.specs.Order.{Holds, InOrder}
 use Rattle.account_ledger.specs.Scans.{AreSmall}
 use Rattle.account_ledger.specs.Settling.{OnFiles}
+use Rattle.account_ledger.proofs.Changing.{changes_weaken}
 use Rattle.account_ledger.proofs.Entering.{served_more, excused_still}
 use Rattle.account_ledger.proofs.Shifting.{RowsShifted, Moves, box_of, holds_shifted}
 
@@ -28,6 +29,11 @@ use Rattle.account_ledger.proofs.Shifting.{RowsShifted, Moves, box_of, holds_shi
 pub record FilesShifted (mailboxes : List (List ℕ)) (leaving coming : Option Message) (files files1 : Files) : Type 0 where
   pub rows : RowsShifted mailboxes leaving coming files.rows files1.rows
   pub ledgers : (root : ℕ) → ledger_at files1 root ≡ ledger_at files root
+
+pub shifted_ledgers : (mailboxes : List (List ℕ)) (leaving coming : Option Message) (now mid : Option Told) → Changes (OnFiles (FilesShifted mailboxes leaving coming)) now mid
+    → Changes (OnFiles (λ files files1. (root : ℕ) → ledger_at files1 root ≡ ledger_at files root)) now mid
+shifted_ledgers mailboxes leaving coming =
+    changes_weaken {X = Told} (OnFiles (FilesShifted mailboxes leaving coming)) (OnFiles (λ files files1. (root : ℕ) → ledger_at files1 root ≡ ledger_at files root)) (λ (x y : Told) shifted. shifted.ledgers)
 
 pub order_shifted : (then now mid now' : Option Told) (faults_then faults faults' : ℕ) (setup : Setup) (epoch : ℕ) (limits : List LimitNumbers) (books books' : List Book) (deliveries deliveries' : ℕ) (history : List Entry) (caller : ℕ) (call : Call)
     (leaving coming : Option Message) (octets : ℕ)

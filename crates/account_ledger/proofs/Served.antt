@@ -17,8 +17,11 @@ use Rattle.account_core.specs.History.{entry_of}
 use Rattle.account_ledger.specs.declared.book.Standing.{Standing}
 use Rattle.account_ledger.specs.declared.book.Standing.TheVariants.{Settled, Doubt}
 use Rattle.account_ledger.specs.Settling.{OnFiles, MarksOne}
-use Rattle.account_ledger.specs.States.{State, standing_at}
+use Rattle.account_ledger.specs.States.{State, standing_at, account_of}
 use Rattle.account_ledger.specs.Serving.{Opened, Enters, OfAccount, SettlesSome, SettlesLedgers, IsSettledNow, IsQuestion, LedgersStay, StayCalm, SettledFor, ServesLedgers, ServesRows, RowsFor, Serves, WritesBy, WritesFor, misses, needs}
+use Rattle.quota_roots.specs.declared.root.RootSpec.{RootSpec}
+use Rattle.quota_roots.specs.declared.setup.Setup.{Setup}
+use Rattle.account_ledger.proofs.Answering.{same_account}
 use Rattle.account_ledger.proofs.Changing.{changes_then, changes_weaken, changes_same}
 
 pub opened_then : (s m s' : State) → Opened s m → Opened m s' → Opened s s'
@@ -36,6 +39,15 @@ opened_noted m n history o = record { setup = o.setup; epoch = o.epoch; opening 
 
 pub stay_noted : (m n : State) (history : List Entry) → LedgersStay m n → LedgersStay m (record n { history = history })
 stay_noted m n history o = record { standings = o.standings; ledgers = o.ledgers; appends = o.appends }
+
+-- a fact about the account goes along
+pub account_moved : (P : List RootSpec → Account → Type 0) (s m : State) → Opened s m → m.history ≡ s.history → OfAccount m (P m.setup.roots) → OfAccount s (P s.setup.roots)
+account_moved P s m opened same fact =
+    subst (λ o. IfSome o (P s.setup.roots)) (same_account s m opened same) (subst (λ (u : Setup). IfSome (account_of m) (P u.roots)) opened.setup fact)
+
+pub account_back : (P : List RootSpec → Account → Type 0) (s m : State) → Opened s m → m.history ≡ s.history → OfAccount s (P s.setup.roots) → OfAccount m (P m.setup.roots)
+account_back P s m opened same fact =
+    subst (λ (u : Setup). IfSome (account_of m) (P u.roots)) (sym opened.setup) (subst (λ o. IfSome o (P s.setup.roots)) (sym (same_account s m opened same)) fact)
 
 -- nothing is settled
 pub settles_same : (may : ℕ → Bool) (s : State) → SettlesSome may s s
@@ -164,3 +176,27 @@ pub settled_for : (b : Bool) (may : ℕ → Bool) (s m : State) → (b ≡ true 
     → m.faults ≡ s.faults → SettlesSome may s m → SettledFor b may s m
 settled_for true may s m none all calm settles = (none_settled may s m (none refl) settles, calm)
 settled_for false may s m none all calm settles = all
+
+-- where the roots that it needs are settled, a call does its work and is entered
+settled_ok : (result : Result Reply StepError) (may : ℕ → Bool) (s m : State) → IfOk result (λ given. misses given ≡ false) → ((root : ℕ) → may root ≡ true → standing_at m.standings root ≡ Settled)
+    → IfOk result (λ given. SettledFor (misses given) may s m)
+settled_ok (Ok given) may s m there all = subst (λ b. SettledFor b may s m) (sym there) all
+settled_ok (Err e) may s m there all = tt
+
+reply_moved : (result : Result Reply StepError) (call : Call) (s m : State) → Opened s m → m.history ≡ s.history → IfOk result (λ given. OfAccount m (λ account. given ≡ reply_of m.setup.roots account call))
+    → IfOk result (λ given. OfAccount s (λ account. given ≡ reply_of s.setup.roots account call))
+reply_moved (Ok given) call s m opened same reply = account_moved (λ roots account. given ≡ reply_of roots account call) s m opened same reply
+reply_moved (Err e) call s m opened same reply = tt
+
+enters_moved : (caller : ℕ) (call : Call) (result : Result Reply StepError) (history history1 history' : List Entry) → history1 ≡ history → Enters caller call result history1 history' → Enters caller call result history history'
+enters_moved caller call result history history1 history' same enters = subst (λ h. Enters caller call result h history') same enters
+
+pub serves_then : (caller : ℕ) (call : Call) (bytes : List ℕ) (result : Result Reply StepError) (s m s' : State) → SettlesSome (needs s.setup.roots call) s m → Opened s m → m.history ≡ s.history → m.faults ≡ s.faults
+    → ((root : ℕ) → needs s.setup.roots call root ≡ true → standing_at m.standings root ≡ Settled)
+    → Opened m s' → Enters caller call result m.history s'.history → IfOk result (λ given. OfAccount m (λ account. given ≡ reply_of m.setup.roots account call)) → WritesBy call result m s'
+    → Changes (OnFiles (λ files files'. ServesRows m.epoch call bytes result files.rows files'.rows)) m.told s'.told → IfOk result (λ given. misses given ≡ false) → (result ≡ Err Store → Rose m.faults s'.faults)
+    → Serves caller call bytes result s s'
+serves_then caller call bytes result s m s' settles opened same calm all opened' enters reply writes rows there cause =
+    serves_by caller call bytes result s m s' settles opened (omega (arith, calm)) (λ not. calm) (settled_ok result (needs s.setup.roots call) s m there all)
+    opened' writes (subst (λ e. Changes (OnFiles (λ files files'. ServesRows e call bytes result files.rows files'.rows)) m.told s'.told) opened.epoch rows)
+    (enters_moved caller call result s.history m.history s'.history same enters) (reply_moved result call s m opened same reply) (λ store. subst (λ f. Rose f s'.faults) calm (cause store))

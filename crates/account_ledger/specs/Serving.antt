@@ -92,8 +92,8 @@ Enters caller call (Err (JournalFull limit)) history history' = history' ≡ his
 Enters caller call (Err NoMemory) history history' = history' ≡ history
 
 -- an entry of the call leaves the account
-abbrev pub Leaves : List RootSpec → Call → Bool → Type 0
-Leaves roots call fault = (account : Account) → (if fault then account else step roots account call) ≡ account
+abbrev pub Leaves : List RootSpec → Call → Bool → Account → Type 0
+Leaves roots call fault account = (if fault then account else step roots account call) ≡ account
 
 -- the files' ledgers, and the standings, stay
 pub record LedgersStay (s s' : State) : Type 0 where

@@ -3,6 +3,7 @@
 
 mod book;
 mod change;
+mod deliver;
 mod fault;
 mod limits;
 mod lines;

@@ -169,7 +169,7 @@ impl<K: Keeper> AccountState<K> {
         call: Call,
         bytes: &[u8],
     ) -> Result<Reply, StepError>
-        requires question { IsQuestion call }
+        requires served { MayBeServed call }
         requires bytes { HasBytes call bytes.now }
         ensures opened { Opened self.old self.new }
         ensures enters { Enters caller call result self.old.history self.new.history }
@@ -201,7 +201,7 @@ impl<K: Keeper> AccountState<K> {
         call: Call,
         bytes: &[u8],
     ) -> Result<Reply, StepError>
-        requires question { IsQuestion call }
+        requires served { MayBeServed call }
         requires bytes { HasBytes call bytes.now }
         requires room { length self.old.history < self.old.setup.journal }
         requires held { length self.old.history < self.old.reserved }
@@ -209,13 +209,18 @@ impl<K: Keeper> AccountState<K> {
         ensures never_full { (limit : ℕ) → result ≢ Err (StepError.JournalFull limit) }
     {
         match call {
-            Call::Deliver { .. } | Call::SetLimits { .. } => unreachable!(),
+            Call::Deliver {
+                mailbox,
+                octets,
+                flags,
+            } => self.deliver(alloc, caller, mailbox, octets, flags, bytes),
+            Call::SetLimits { root, limits } => self.set_limits(alloc, caller, root, limits),
             question => self.ask(alloc, caller, question, bytes),
         }
     }
 
     /// Answers a question, and enters it.
-    #[tactic(auto, using(crate::proofs::Entering::question_leaves, crate::proofs::Entering::question_served, crate::proofs::Entering::excused_more))]
+    #[tactic(auto, using(crate::proofs::Entering::question_leaves, crate::proofs::Entering::fault_leaves, crate::proofs::Entering::question_served, crate::proofs::Entering::excused_more))]
     fn ask(
         &mut self,
         alloc: Global,
@@ -271,7 +276,7 @@ impl<K: Keeper> AccountState<K> {
         requires room { length self.old.history < self.old.setup.journal }
         requires held { length self.old.history < self.old.reserved }
         requires served { MayBeServed call }
-        requires leaves { Leaves self.old.setup.roots call fault }
+        requires leaves { OfAccount self.old (Leaves self.old.setup.roots call fault) }
         requires excused { min (self.old.first_faults + fault_count (self.old.history ++ entry_of caller call fault ∷ [])) (2 ^ 64 - 1) ≤ self.old.faults }
         ensures { self.new ≡ record self.old { history = self.old.history ++ entry_of caller call fault ∷ [] } }
     {
@@ -335,7 +340,7 @@ impl<K: Keeper> AccountState<K> {
     }
 
     /// Settles each root in doubt that governs the mailbox. It is no entry of the history.
-    fn settle_mailbox(&mut self, alloc: Global, mailbox: &[u8]) -> Result<(), StepError>
+    pub(crate) fn settle_mailbox(&mut self, alloc: Global, mailbox: &[u8]) -> Result<(), StepError>
         ensures opened { Opened self.old self.new }
         ensures history { self.new.history ≡ self.old.history }
         ensures reserved { self.new.reserved ≡ self.old.reserved }
@@ -367,7 +372,7 @@ impl<K: Keeper> AccountState<K> {
     }
 
     /// Whether a message fits the roots that govern the mailbox, which are settled.
-    fn verdict_of(&self, alloc: Global, mailbox: &[u8], octets: u64) -> Result<Verdict, AllocError>
+    pub(crate) fn verdict_of(&self, alloc: Global, mailbox: &[u8], octets: u64) -> Result<Verdict, AllocError>
         requires { (root : ℕ) → governs_at self.now.setup.roots root mailbox.now ≡ true → standing_at self.now.standings root ≡ Settled }
         ensures { IfOk result (λ verdict. OfAccount self.now (λ account. IsVerdict (over_in self.now.setup.roots account mailbox.now octets) verdict)) }
     {
