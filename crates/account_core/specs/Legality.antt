@@ -7,7 +7,7 @@ use Rattle.quota_units.specs.declared.totals.Totals.{Totals}
 use Rattle.quota_roots.specs.Governing.{governing, governs_at}
 use Rattle.admission.specs.Fitting.{allows, limits_at, totals_at, FitsEach}
 use Rattle.account_core.specs.declared.calls.Call.{Call}
-use Rattle.account_core.specs.declared.calls.Call.TheVariants.{Deliver, Check, Quota, SetLimits, Roots}
+use Rattle.account_core.specs.declared.calls.Call.TheVariants.{Deliver, Check, Remove, Mark, Move, Quota, SetLimits, Roots, Status, ScanBegin, ScanPart, Install}
 use Rattle.account_core.specs.declared.calls.Entry.{Entry}
 use Rattle.account_core.specs.declared.calls.Reply.{Reply}
 use Rattle.account_core.specs.declared.calls.Reply.TheVariants.{Over, Delivered}
@@ -22,6 +22,13 @@ MayBeServed (Check octets) = Unit {0}
 MayBeServed (Quota name) = Unit {0}
 MayBeServed (SetLimits name limits) = Unit {0}
 MayBeServed (Roots mailbox) = Unit {0}
+MayBeServed (Remove mailbox base) = Unit {0}
+MayBeServed (Mark mailbox base flags) = Unit {0}
+MayBeServed (Move from base to) = Unit {0}
+MayBeServed (Status mailbox) = Unit {0}
+MayBeServed ScanBegin = Unit {0}
+MayBeServed (ScanPart index) = Unit {0}
+MayBeServed (Install generation) = Unit {0}
 
 -- each entry's call meets that
 abbrev pub AreServed : List Entry → Type 0

@@ -1,5 +1,9 @@
 pub mod Account
 pub mod Delivering
+pub mod Messages
+pub mod Refusals
+pub mod Changing
+pub mod Scanning
 pub mod Machine
 pub mod History
 pub mod Legality

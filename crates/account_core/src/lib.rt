@@ -7,6 +7,7 @@ mod delivered;
 mod laws;
 mod plain;
 mod rows;
+mod scans;
 
 pub use booked::Booked;
 pub use calls::{Call, Entry, Reply, RootRow, StepError};
@@ -14,6 +15,7 @@ pub use delivered::{delivered_base, delivered_bases_differ};
 pub use laws::{no_accepted_message_breaks_a_limit, over_exactly_where_a_message_does_not_fit};
 pub use plain::PlainAccount;
 pub use rows::RootRows;
+pub use scans::{RootSets, TotalsList};
 
 #[cfg(test)]
 mod tests;

@@ -9,7 +9,7 @@ use Rattle.keeper.specs.Files.{Files}
 use Rattle.keeper.specs.Calls.{Told}
 use Rattle.keeper.specs.Causes.{Rose}
 use Rattle.account_core.specs.declared.calls.Call.{Call}
-use Rattle.account_core.specs.declared.calls.Call.TheVariants.{Deliver, Check, Quota, SetLimits, Roots}
+use Rattle.account_core.specs.declared.calls.Call.TheVariants.{Deliver, Check, Remove, Mark, Move, Quota, SetLimits, Roots, Status, ScanBegin, ScanPart, Install}
 use Rattle.account_core.specs.declared.calls.Entry.{Entry}
 use Rattle.account_core.specs.Account.{Account}
 use Rattle.account_core.specs.History.{replay, entry_of}
@@ -24,6 +24,13 @@ use Rattle.account_ledger.proofs.Changing.{changes_weaken}
 pub question_leaves : (roots : List RootSpec) (call : Call) (fault : Bool) → IsQuestion call → Leaves roots call fault
 question_leaves roots (Deliver mailbox octets flags) fault question account = absurd question
 question_leaves roots (SetLimits name limits) fault question account = absurd question
+question_leaves roots (Remove mailbox base) fault question account = absurd question
+question_leaves roots (Mark mailbox base flags) fault question account = absurd question
+question_leaves roots (Move from base to) fault question account = absurd question
+question_leaves roots (Status mailbox) fault question account = absurd question
+question_leaves roots ScanBegin fault question account = absurd question
+question_leaves roots (ScanPart index) fault question account = absurd question
+question_leaves roots (Install generation) fault question account = absurd question
 question_leaves roots (Check octets) true question account = refl
 question_leaves roots (Check octets) false question account = refl
 question_leaves roots (Quota name) true question account = refl
@@ -34,6 +41,13 @@ question_leaves roots (Roots mailbox) false question account = refl
 pub question_served : (call : Call) → IsQuestion call → MayBeServed call
 question_served (Deliver mailbox octets flags) question = absurd question
 question_served (SetLimits name limits) question = absurd question
+question_served (Remove mailbox base) question = absurd question
+question_served (Mark mailbox base flags) question = absurd question
+question_served (Move from base to) question = absurd question
+question_served (Status mailbox) question = absurd question
+question_served ScanBegin question = absurd question
+question_served (ScanPart index) question = absurd question
+question_served (Install generation) question = absurd question
 question_served (Check octets) question = tt
 question_served (Quota name) question = tt
 question_served (Roots mailbox) question = tt

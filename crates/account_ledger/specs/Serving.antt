@@ -1,10 +1,10 @@
 -- What calls do to the state of an account.
-use Rattle.std.specs.Prelude.{◌≡◌, ◌⊎◌, ℕ, Bool, true, false, nat_eq, codes, if◌then◌else◌, List, [], ◌∷◌, ◌++◌, length, Option, Some, None, Result, Ok, Err, IfSome}
+use Rattle.std.specs.Prelude.{◌≡◌, ◌⊎◌, ℕ, Bool, true, false, not, ◌&&◌, nat_eq, codes, if◌then◌else◌, List, [], ◌∷◌, ◌++◌, length, Option, Some, None, Result, Ok, Err, IfSome}
 use Rattle.quota_roots.specs.declared.root.RootSpec.{RootSpec}
 use Rattle.quota_roots.specs.Governing.{governs_at}
 use Rattle.quota_roots.specs.RootLists.{place_of}
 use Rattle.account_core.specs.declared.calls.Call.{Call}
-use Rattle.account_core.specs.declared.calls.Call.TheVariants.{Deliver, Check, Quota, SetLimits, Roots}
+use Rattle.account_core.specs.declared.calls.Call.TheVariants.{Deliver, Check, Remove, Mark, Move, Quota, SetLimits, Roots, Status, ScanBegin, ScanPart, Install}
 use Rattle.account_core.specs.declared.calls.Entry.{Entry}
 use Rattle.account_core.specs.declared.calls.Reply.{Reply}
 use Rattle.account_core.specs.declared.calls.StepError.{StepError}
@@ -54,14 +54,28 @@ needs roots (Check octets) root = governs_at roots root (codes "INBOX")
 needs roots (Quota name) root = is_place (place_of roots name) root
 needs roots (SetLimits name limits) root = is_place (place_of roots name) root
 needs roots (Roots mailbox) root = governs_at roots root mailbox
+needs roots (Move from base to) root = governs_at roots root to && not (governs_at roots root from)
+needs roots (Remove mailbox base) root = false
+needs roots (Mark mailbox base flags) root = false
+needs roots (Status mailbox) root = false
+needs roots ScanBegin root = false
+needs roots (ScanPart index) root = false
+needs roots (Install generation) root = false
 
--- the calls that leave the account
+-- the calls that are served, which leave the account
 abbrev pub IsQuestion : Call → Type 0
 IsQuestion (Deliver mailbox octets flags) = ⊥
 IsQuestion (Check octets) = Unit {0}
 IsQuestion (Quota name) = Unit {0}
 IsQuestion (SetLimits name limits) = ⊥
 IsQuestion (Roots mailbox) = Unit {0}
+IsQuestion (Remove mailbox base) = ⊥
+IsQuestion (Mark mailbox base flags) = ⊥
+IsQuestion (Move from base to) = ⊥
+IsQuestion (Status mailbox) = ⊥
+IsQuestion ScanBegin = ⊥
+IsQuestion (ScanPart index) = ⊥
+IsQuestion (Install generation) = ⊥
 
 -- how the history changes by a call's result: an entry without fault, one with fault, or none
 abbrev pub Enters : ℕ → Call → Result Reply StepError → List Entry → List Entry → Type 0

@@ -254,7 +254,15 @@ impl<K: Keeper> AccountState<K> {
             Call::Quota { root } => self.quota(alloc, root.as_slice()),
             Call::Roots { mailbox } => self.roots(alloc, mailbox.as_slice()),
             Call::Check { octets } => self.check(alloc, *octets),
-            Call::Deliver { .. } | Call::SetLimits { .. } => unreachable!(),
+            Call::Deliver { .. }
+            | Call::SetLimits { .. }
+            | Call::Remove { .. }
+            | Call::Mark { .. }
+            | Call::Move { .. }
+            | Call::Status { .. }
+            | Call::ScanBegin
+            | Call::ScanPart { .. }
+            | Call::Install { .. } => unreachable!(),
         }
     }
 
