@@ -3,3 +3,7 @@ pub mod Logging
 pub mod DeliveredLemmas
 pub mod Histories
 pub mod Admitting
+pub mod MessageSums
+pub mod Generations
+pub mod Moving
+pub mod Apart

@@ -9,3 +9,4 @@ pub mod History
 pub mod Legality
 pub mod Plain
 pub mod Histories
+pub mod Generations

@@ -1,4 +1,5 @@
-ghost use Rattle.account_core.specs.Legality.{NoneBroken, OverWhereNoFit};
+ghost use Rattle.account_core.specs.Generations.{EqualGenerationEqualUsage, GenerationIsCounted};
+ghost use Rattle.account_core.specs.Legality.{MoveOverWhereNoFit, NoneBroken, NoneBrokenByMoves, OverWhereNoFit};
 
 /// No accepted message breaks a limit, in any history.
 pub fn no_accepted_message_breaks_a_limit()
@@ -8,4 +9,29 @@ pub fn no_accepted_message_breaks_a_limit()
 /// A delivery and a check are answered that a root would be over its limit exactly where the message does not fit.
 pub fn over_exactly_where_a_message_does_not_fit()
     ensures { OverWhereNoFit }
+{}
+
+/// A message that is moved breaks no limit of a root that governs the mailbox it goes to and not the one it comes from, in any
+/// history.
+#[tactic(auto, using(crate::proofs::Apart::apart_moved))]
+pub fn no_moved_message_breaks_a_limit()
+    ensures { NoneBrokenByMoves }
+{}
+
+/// A move is answered that a root would be over its limit exactly where nothing but such a limit keeps the message from the
+/// mailbox, and it does not fit.
+pub fn a_move_is_over_exactly_where_the_message_does_not_fit()
+    ensures { MoveOverWhereNoFit }
+{}
+
+/// The generation that the machine answers with is the number of deliveries, removals and moves between two mailboxes in the
+/// history.
+pub fn the_generation_counts_the_changes()
+    ensures { GenerationIsCounted }
+{}
+
+/// Where a history begins with another of the same generation, both leave the same messages but for their flags, and the same
+/// usage of every root.
+pub fn equal_generations_have_equal_usages()
+    ensures { EqualGenerationEqualUsage }
 {}
