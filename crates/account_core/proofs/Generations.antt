@@ -4,7 +4,7 @@ use Rattle.std.proofs.lemmas.List.Sums.{sum_by-cons}
 use Rattle.quota_units.specs.declared.flags.Flags.{Flags}
 use Rattle.quota_units.specs.declared.resource.Resource.{Resource}
 use Rattle.quota_roots.specs.declared.root.RootSpec.{RootSpec}
-use Rattle.quota_roots.specs.Governing.{governs}
+use Rattle.quota_roots.specs.Governing.{gaining, governs}
 use Rattle.account_core.specs.declared.calls.Call.{Call}
 use Rattle.account_core.specs.declared.calls.Call.TheVariants.{Deliver, Check, Remove, Mark, Move, Quota, SetLimits, Roots, Status, ScanBegin, ScanPart, Install}
 use Rattle.account_core.specs.declared.calls.Entry.{Entry}
@@ -14,7 +14,7 @@ use Rattle.account_core.specs.declared.calls.RootRow.{RootRow}
 use Rattle.quota_units.specs.Limiting.{LimitNumbers}
 use Rattle.account_core.specs.Account.{Account, Message, Opened, usage}
 use Rattle.account_core.specs.Messages.{is_message, named_message, changed, with_flags}
-use Rattle.account_core.specs.Machine.{has_mailbox, if_message, usages, over_of, over_in, over_or, gaining, named, quota_reply, limits_reply, reply_of, step, delivered_after, removed_after, marked_after, moved_after, moving_reply}
+use Rattle.account_core.specs.Machine.{has_mailbox, if_message, usages, over_of, over_in, over_or, named, quota_reply, limits_reply, reply_of, step, delivered_after, removed_after, marked_after, moved_after, moving_reply}
 use Rattle.account_core.specs.Scanning.{status_of, part_of}
 use Rattle.account_core.specs.History.{replay, account_after}
 use Rattle.account_core.specs.Generations.{is_change, changes, changes_from, generation, unflagged, GenerationIsCounted, EqualGenerationEqualUsage}

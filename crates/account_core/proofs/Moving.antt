@@ -1,14 +1,12 @@
 -- Moves that are answered that a root would be over, and what becomes of the usages where a message is moved.
-use Rattle.std.proofs.Common.{◌≡◌, ◌≢◌, ℕ, ◌+◌, ◌<◌, Bool, true, false, cond, not, List, [], ◌∷◌, ◌++◌, length, get_or, Option, Some, None, is_some, arith, refl, sym, ◌∙◌, ap, subst, inl, inr, bytes_eq}
-use Rattle.std.specs.List.{Contains}
-use Rattle.std.proofs.lemmas.Bool.{and_from, false≢true, cases_Bool}
+use Rattle.std.proofs.Common.{◌≡◌, ◌≢◌, ℕ, ◌+◌, ◌<◌, Bool, true, false, cond, List, [], ◌∷◌, ◌++◌, length, get_or, Option, Some, None, is_some, arith, refl, sym, ◌∙◌, ap, subst, inl, inr, bytes_eq}
+use Rattle.std.proofs.lemmas.Bool.{false≢true, cases_Bool}
 use Rattle.std.proofs.lemmas.List.Elements.{All-contains}
 use Rattle.std.proofs.lemmas.Slice.Eq.{bytes_eq-Decides}
 use Rattle.quota_units.specs.declared.resource.Resource.{Resource}
 use Rattle.quota_roots.specs.declared.root.RootSpec.{RootSpec}
-use Rattle.quota_roots.specs.Governing.{governs, governs_at, governing}
-use Rattle.quota_roots.proofs.GoverningLemmas.{governing_members, governs_at_get_or}
-use Rattle.quota_roots.proofs.MemberLemmas.{is_in-from_Contains, Contains-from_is_in, is_in-filter}
+use Rattle.quota_roots.specs.Governing.{gaining, governs, governs_at}
+use Rattle.quota_roots.proofs.GoverningLemmas.{gaining_members, governs_at_get_or}
 use Rattle.admission.specs.Fitting.{limits_at, totals_at, fits_root}
 use Rattle.account_core.specs.declared.calls.Call.TheVariants.{Move}
 use Rattle.account_core.specs.declared.calls.Entry.{Entry}
@@ -16,7 +14,7 @@ use Rattle.account_core.specs.declared.calls.Reply.{Reply}
 use Rattle.account_core.specs.declared.calls.Reply.TheVariants.{NoMailbox, NoMessage, NameTaken, Moved}
 use Rattle.account_core.specs.Account.{Account, Message, Opened, counted, usage}
 use Rattle.account_core.specs.Messages.{named_message, changed, with_mailbox}
-use Rattle.account_core.specs.Machine.{usages, over_of, over_or, gaining, moving_reply, placing_reply, move_reply, moved_after, has_mailbox}
+use Rattle.account_core.specs.Machine.{usages, over_of, over_or, moving_reply, placing_reply, move_reply, moved_after, has_mailbox}
 use Rattle.account_core.specs.History.{reply, entry_of}
 use Rattle.account_core.specs.Legality.{AreWithin, account_at, IsOver, MayMove, NoneBrokenByMoves, MoveOverWhereNoFit}
 use Rattle.account_core.proofs.Replaying.{replay_more}
@@ -99,13 +97,6 @@ move_over_where_no_fit opened history from base to =
           subst IsOver (sym (move_is opened.roots account from base to message may)) (both.1 (λ first. none (fits_all account.limits (usages opened.roots account) gains message.octets first))),
     )
 
--- a root that governs the target and not the source is among those that a move looks at
-gains_root : (roots : List RootSpec) (from to : List ℕ) (root : ℕ) → governs_at roots root to ≡ true → governs_at roots root from ≡ false → Contains (gaining roots from to) root
-gains_root roots from to root governed free =
-    let p = λ (k : ℕ). not (governs_at roots k from) in
-    Contains-from_is_in _ root (is_in-filter p root (governing roots to)
-    ∙ and_from _ _ (is_in-from_Contains _ root ((governing_members roots to root).1 governed)) (ap not free))
-
 into : (x y w w' : ℕ) (source target : Bool) → x + cond source w 0 ≡ y + cond target w' 0 → source ≡ false → target ≡ true → x ≡ y + w'
 into x y w w' true target e free governed = absurd (cc)
 into x y w w' false true e free governed = omega arith
@@ -162,7 +153,7 @@ module _ (opened : Opened) (history : List Entry) (caller : ℕ) (from base to :
       let none = none_first _ fitting.1 in
       let gains = gaining opened.roots from to in
       let each = fits_all before.limits (usages opened.roots before) gains message.octets none in
-      let fits = All-contains (λ r. fits_root (limits_at before.limits r) (totals_at (usages opened.roots before) r) message.octets ≡ true) gains root each (gains_root opened.roots from to root governed free) in
+      let fits = All-contains (λ r. fits_root (limits_at before.limits r) (totals_at (usages opened.roots before) r) message.octets ≡ true) gains root each ((gaining_members opened.roots from to root).1 (governed, free)) in
       let had = totals_at-usages opened.roots before root d inside in
       let now_is = after_is given apart in
       let has : totals_at (usages opened.roots after) root ≡ record { octets = (usage spec before).octets + message.octets; count = (usage spec before).count + 1 } =

@@ -7,7 +7,8 @@ use Rattle.account_core.specs.declared.calls.Reply.TheVariants.{NoMessage, Deliv
 use Rattle.account_core.specs.Account.{Account, Message}
 use Rattle.account_core.specs.Delivering.{delivered_base}
 use Rattle.account_core.specs.Messages.{named_message, removed, changed, with_flags, with_mailbox}
-use Rattle.account_core.specs.Refusals.{in_mailbox, if_message, over_of, over_in, over_or, gaining}
+use Rattle.account_core.specs.Refusals.{in_mailbox, if_message, over_of, over_in, over_or}
+use Rattle.quota_roots.specs.Governing.{gaining}
 
 -- the answer to a delivery: its number counts the accepted deliveries, from 1 on
 abbrev pub delivery_reply : List RootSpec → Account → List ℕ → ℕ → Reply

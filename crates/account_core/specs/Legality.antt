@@ -4,7 +4,7 @@ use Rattle.quota_units.specs.Limiting.{LimitNumbers}
 use Rattle.quota_units.specs.declared.flags.Flags.{Flags}
 use Rattle.quota_units.specs.declared.resource.Resource.{Resource}
 use Rattle.quota_units.specs.declared.totals.Totals.{Totals}
-use Rattle.quota_roots.specs.Governing.{governing, governs_at}
+use Rattle.quota_roots.specs.Governing.{gaining, governing, governs_at}
 use Rattle.admission.specs.Fitting.{allows, limits_at, totals_at, FitsEach}
 use Rattle.account_core.specs.declared.calls.Call.{Call}
 use Rattle.account_core.specs.declared.calls.Call.TheVariants.{Deliver, Check, Remove, Mark, Move, Quota, SetLimits, Roots, Status, ScanBegin, ScanPart, Install}
@@ -13,7 +13,7 @@ use Rattle.account_core.specs.declared.calls.Reply.{Reply}
 use Rattle.account_core.specs.declared.calls.Reply.TheVariants.{Over, Delivered, Moved}
 use Rattle.account_core.specs.Account.{Account, Message, Opened}
 use Rattle.account_core.specs.Messages.{named_message}
-use Rattle.account_core.specs.Machine.{has_mailbox, usages, gaining}
+use Rattle.account_core.specs.Machine.{has_mailbox, usages}
 use Rattle.account_core.specs.History.{replay, reply, entry_of}
 
 -- what each call has to meet: a message has at most 67108864 octets

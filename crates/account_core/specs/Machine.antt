@@ -11,7 +11,8 @@ use Rattle.account_core.specs.declared.calls.Reply.{Reply}
 use Rattle.account_core.specs.declared.calls.Reply.TheVariants.{Fits, Removed, Marked, NoRoot, Quota, LimitsSet, Roots}
 use Rattle.account_core.specs.Account.{Account, usage}
 use Rattle.account_core.specs.Scanning.{status_reply, begun_reply, part_reply, install_reply}
-pub use Rattle.account_core.specs.Refusals.{has_mailbox, in_mailbox, if_message, usages, over_of, over_in, over_or, gaining}
+pub use Rattle.quota_roots.specs.Governing.{gaining}
+pub use Rattle.account_core.specs.Refusals.{has_mailbox, in_mailbox, if_message, usages, over_of, over_in, over_or}
 pub use Rattle.account_core.specs.Changing.{delivery_reply, delivered_message, delivered_after, message_reply, removed_after, marked_after, placing_reply, moving_reply, move_reply, moved_after}
 
 -- a root's number, usage and limits

@@ -1,10 +1,10 @@
 -- What refuses a call: a mailbox or a message that is not there, and a root that would be over a limit.
-use Rattle.std.specs.Prelude.{ℕ, Bool, not, List, Option, Some, None, bytes_eq, filter, map, if◌then◌else◌}
+use Rattle.std.specs.Prelude.{ℕ, Bool, List, Option, Some, None, bytes_eq, map, if◌then◌else◌}
 use Rattle.std.specs.List.{list_any}
 use Rattle.quota_units.specs.declared.resource.Resource.{Resource}
 use Rattle.quota_units.specs.declared.totals.Totals.{Totals}
 use Rattle.quota_roots.specs.declared.root.RootSpec.{RootSpec}
-use Rattle.quota_roots.specs.Governing.{governs_at, governing}
+use Rattle.quota_roots.specs.Governing.{governing}
 use Rattle.admission.specs.Fitting.{first_over}
 use Rattle.account_core.specs.declared.calls.Reply.{Reply}
 use Rattle.account_core.specs.declared.calls.Reply.TheVariants.{NoMailbox, NoMessage, Over}
@@ -33,10 +33,6 @@ over_of roots account numbers octets = first_over account.limits (usages roots a
 -- the same among the roots that govern the mailbox
 abbrev pub over_in : List RootSpec → Account → List ℕ → ℕ → Option (ℕ × Resource)
 over_in roots account mailbox octets = over_of roots account (governing roots mailbox) octets
-
--- the numbers of the roots that govern the target of a move and not its source, in order
-abbrev pub gaining : List RootSpec → List ℕ → List ℕ → List ℕ
-gaining roots from to = filter (λ root. not (governs_at roots root from)) (governing roots to)
 
 abbrev pub over_or : Option (ℕ × Resource) → Reply → Reply
 over_or None given = given
