@@ -7,3 +7,5 @@ pub mod MessageSums
 pub mod Generations
 pub mod Moving
 pub mod Apart
+pub mod Naming
+pub mod Worked

@@ -139,6 +139,16 @@ module _ (opened : Opened) (history : List Entry) (caller : ℕ) (from base to :
       ∙ ap (λ r. moved_after before from base to r) given
       ∙ ap (λ b. cond b before (record before { messages = changed from base (with_mailbox to) before.messages; generation = before.generation + 1 })) apart
 
+  -- the message of a move that was made, and that it fits
+  moved_fits : reply opened history (Move from base to) ≡ Moved → bytes_eq from to ≡ false
+      → (message : Message) × (named_message from base before.messages ≡ Some message) × (over_of opened.roots before (gaining opened.roots from to) message.octets ≡ None)
+  moved_fits given apart =
+      let seen = looked_at IsMoved (λ e. cc) (λ e. cc) (λ e. cc) opened.roots before from base to given in
+      let over = over_of opened.roots before (gaining opened.roots from to) seen.0.octets in
+      let placed = placed_is (bytes_eq from to) (placing_reply opened.roots before from base to seen.0) apart seen.4 in
+      let fitting = not_taken IsMoved (λ e. cc) (λ e. cc) (λ e. cc) opened.roots before from base to (named_message to base before.messages) (over_or over Moved) placed in
+      (seen.0, seen.3, none_first over fitting.1)
+
   root_within : (root : ℕ) → reply opened history (Move from base to) ≡ Moved → governs_at opened.roots root to ≡ true → governs_at opened.roots root from ≡ false
       → (inside : root < length opened.roots)
       → AreWithin (limits_at after.limits root) (totals_at (usages opened.roots after) root)
@@ -146,19 +156,16 @@ module _ (opened : Opened) (history : List Entry) (caller : ℕ) (from base to :
       let d : RootSpec = record { name = []; prefix = None } in
       let spec = get_or opened.roots root d in
       let apart = apart_of root governed free in
-      let seen = looked_at IsMoved (λ e. cc) (λ e. cc) (λ e. cc) opened.roots before from base to given in
-      let message = seen.0 in
-      let placed = placed_is (bytes_eq from to) (placing_reply opened.roots before from base to message) apart seen.4 in
-      let fitting = not_taken IsMoved (λ e. cc) (λ e. cc) (λ e. cc) opened.roots before from base to (named_message to base before.messages) _ placed in
-      let none = none_first _ fitting.1 in
+      let moved = moved_fits given apart in
+      let message = moved.0 in
       let gains = gaining opened.roots from to in
-      let each = fits_all before.limits (usages opened.roots before) gains message.octets none in
+      let each = fits_all before.limits (usages opened.roots before) gains message.octets moved.2 in
       let fits = All-contains (λ r. fits_root (limits_at before.limits r) (totals_at (usages opened.roots before) r) message.octets ≡ true) gains root each ((gaining_members opened.roots from to root).1 (governed, free)) in
       let had = totals_at-usages opened.roots before root d inside in
       let now_is = after_is given apart in
       let has : totals_at (usages opened.roots after) root ≡ record { octets = (usage spec before).octets + message.octets; count = (usage spec before).count + 1 } =
       totals_at-usages opened.roots after root d inside
-      ∙ usage_moved spec before after message from base to (ap (λ (a : Account). a.messages) now_is) seen.3
+      ∙ usage_moved spec before after message from base to (ap (λ (a : Account). a.messages) now_is) moved.1
       (sym (governs_at_get_or opened.roots from root d inside) ∙ free) (sym (governs_at_get_or opened.roots to root d inside) ∙ governed) in
       let kept : after.limits ≡ before.limits = ap (λ (a : Account). a.limits) now_is in
       within_from _ _ _ _ _ message.octets had (ap (λ ls. limits_at ls root) kept) has fits

@@ -10,3 +10,5 @@ pub mod Legality
 pub mod Plain
 pub mod Histories
 pub mod Generations
+pub mod Naming
+pub mod Worked

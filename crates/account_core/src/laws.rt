@@ -1,4 +1,6 @@
 ghost use Rattle.account_core.specs.Generations.{EqualGenerationEqualUsage, GenerationIsCounted};
+ghost use Rattle.account_core.specs.Naming.{NamesStayApart};
+ghost use Rattle.account_core.specs.Worked.{MessagesAreCounted, MovesAreAnswered, ScansAreAnswered};
 ghost use Rattle.account_core.specs.Legality.{MoveOverWhereNoFit, NoneBroken, NoneBrokenByMoves, OverWhereNoFit};
 
 /// No accepted message breaks a limit, in any history.
@@ -13,7 +15,6 @@ pub fn over_exactly_where_a_message_does_not_fit()
 
 /// A message that is moved breaks no limit of a root that governs the mailbox it goes to and not the one it comes from, in any
 /// history.
-#[tactic(auto, using(crate::proofs::Apart::apart_moved))]
 pub fn no_moved_message_breaks_a_limit()
     ensures { NoneBrokenByMoves }
 {}
@@ -34,4 +35,17 @@ pub fn the_generation_counts_the_changes()
 /// usage of every root.
 pub fn equal_generations_have_equal_usages()
     ensures { EqualGenerationEqualUsage }
+{}
+
+/// A mailbox and a base name one message at most, in any history, where they did when the account was opened.
+pub fn names_stay_apart()
+    ensures { NamesStayApart }
+{}
+
+/// Worked accounts: moves out of Trash, into it and within a mailbox; messages that are moved, marked, removed and counted; and
+/// scans that are begun, made in parts, and installed or refused.
+pub fn worked_accounts_are_answered_so()
+    ensures moves { MovesAreAnswered }
+    ensures counts { MessagesAreCounted }
+    ensures scans { ScansAreAnswered }
 {}

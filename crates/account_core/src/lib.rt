@@ -14,8 +14,9 @@ pub use calls::{Call, Entry, Reply, RootRow, StepError};
 pub use delivered::{delivered_base, delivered_bases_differ};
 pub use laws::{
     a_move_is_over_exactly_where_the_message_does_not_fit, equal_generations_have_equal_usages,
-    no_accepted_message_breaks_a_limit, no_moved_message_breaks_a_limit,
+    names_stay_apart, no_accepted_message_breaks_a_limit, no_moved_message_breaks_a_limit,
     over_exactly_where_a_message_does_not_fit, the_generation_counts_the_changes,
+    worked_accounts_are_answered_so,
 };
 pub use plain::PlainAccount;
 pub use rows::RootRows;
