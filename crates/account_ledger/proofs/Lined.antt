@@ -16,6 +16,7 @@ use Rattle.admission.specs.Fitting.{limits_at}
 use Rattle.account_core.specs.declared.calls.Entry.{Entry}
 use Rattle.account_core.specs.Account.{Account}
 use Rattle.account_core.specs.History.{replay}
+use Rattle.account_ledger.specs.declared.counts.Counts.{Counts}
 use Rattle.account_ledger.specs.declared.book.Book.{Book}
 use Rattle.account_ledger.specs.declared.book.Standing.{Standing}
 use Rattle.account_ledger.specs.declared.book.Standing.TheVariants.{Settled, Doubt}
@@ -101,11 +102,11 @@ line_past None octets text standing standing' long ledger ledger' doubt same = s
 line_past (Some change) octets text standing standing' long ledger ledger' doubt same = rw doubt same
 
 module _ (setup : Setup) (changes : ℕ → Option Change) (octets : ℕ) (limits : List LimitNumbers) (books books' : List Book) (lined : BooksLined (length setup.roots) changes octets limits books books') (each : length books ≡ length setup.roots) where
-  one_line : (deliveries entries : ℕ) (account : Account) (files mid files' : Files) → Holds setup limits books' deliveries entries account files' → ((root : ℕ) → ledger_at mid root ≡ ledger_at files root)
+  one_line : (counts : Counts) (entries : ℕ) (account : Account) (files mid files' : Files) → Holds setup limits books' counts entries account files' → ((root : ℕ) → ledger_at mid root ≡ ledger_at files root)
       → LedgersLined (length setup.roots) changes octets limits books books' mid files' → (root : ℕ)
       → LineAt (changes root) octets (folded (limits_at account.limits root) (usage_at setup.roots root account)) (standing_at (standings_of books) root) (length_at (lengths_of books) root) (ledger_at files root)
       (standing_at (standings_of books') root) (ledger_at files' root)
-  one_line deliveries entries account files mid files' holds same lines root = elim (cases_lt root (length setup.roots)) [
+  one_line counts entries account files mid files' holds same lines root = elim (cases_lt root (length setup.roots)) [
     | inl inside ↦
         rw (standing_of books root, standing_of books' root, length_of books root)
         (subst (λ l. LineAt (changes root) octets (folded (limits_at account.limits root) (usage_at setup.roots root account)) (book_at books root).standing (book_at books root).length l (book_at books' root).standing (ledger_at files' root)) (same root)
@@ -115,14 +116,14 @@ module _ (setup : Setup) (changes : ℕ → Option Change) (octets : ℕ) (limit
         line_past (changes root) octets _ _ _ _ _ _ (standing_of books root ∙ ap (λ (b : Book). b.standing) (get_or_past books root no_book (omega (arith, each, far)))) (lines.left root far ∙ same root)
   ]
 
-  pub line_ledgers : (then now mid now' : Option Told) (faults_then faults : ℕ) (epoch deliveries : ℕ) (history : List Entry) → InOrder then now' faults_then faults setup epoch limits books' deliveries history
+  pub line_ledgers : (then now mid now' : Option Told) (faults_then faults : ℕ) (epoch : ℕ) (counts : Counts) (history : List Entry) → InOrder then now' faults_then faults setup epoch limits books' counts history
       → Changes (OnFiles (λ files files1. (root : ℕ) → ledger_at files1 root ≡ ledger_at files root)) now mid → Changes (OnFiles (LedgersLined (length setup.roots) changes octets limits books books')) mid now'
       → IfSome (option_map (λ opening. replay setup.roots opening history) (opening_of setup epoch then)) (λ account. Changes (OnFiles (λ files files'. (root : ℕ)
       → LineAt (changes root) octets (folded (limits_at account.limits root) (usage_at setup.roots root account)) (standing_at (standings_of books) root) (length_at (lengths_of books) root) (ledger_at files root)
       (standing_at (standings_of books') root) (ledger_at files' root))) now now')
-  line_ledgers then now mid now' faults_then faults epoch deliveries history order same lines = by then now mid now' order.held same lines
+  line_ledgers then now mid now' faults_then faults epoch counts history order same lines = by then now mid now' order.held same lines
     where
-      by : (t n m n' : Option Told) → Changes (λ x y. Holds setup limits books' deliveries (length history) (replay setup.roots (opening_account setup epoch x.files) history) y.files) t n'
+      by : (t n m n' : Option Told) → Changes (λ x y. Holds setup limits books' counts (length history) (replay setup.roots (opening_account setup epoch x.files) history) y.files) t n'
           → Changes (OnFiles (λ files files1. (root : ℕ) → ledger_at files1 root ≡ ledger_at files root)) n m → Changes (OnFiles (LedgersLined (length setup.roots) changes octets limits books books')) m n'
           → IfSome (option_map (λ opening. replay setup.roots opening history) (opening_of setup epoch t)) (λ account. Changes (OnFiles (λ files files'. (root : ℕ)
           → LineAt (changes root) octets (folded (limits_at account.limits root) (usage_at setup.roots root account)) (standing_at (standings_of books) root) (length_at (lengths_of books) root) (ledger_at files root)
@@ -131,4 +132,4 @@ module _ (setup : Setup) (changes : ℕ → Option Change) (octets : ℕ) (limit
       by (Some t) n m None held same lines = absurd held
       by (Some t) n None (Some n') held same lines = absurd lines
       by (Some t) None (Some m) (Some n') held same lines = absurd same
-      by (Some t) (Some n) (Some m) (Some n') held same lines = one_line deliveries (length history) (replay setup.roots (opening_account setup epoch t.files) history) n.files m.files n'.files held same lines
+      by (Some t) (Some n) (Some m) (Some n') held same lines = one_line counts (length history) (replay setup.roots (opening_account setup epoch t.files) history) n.files m.files n'.files held same lines

@@ -15,6 +15,7 @@ use Rattle.account_core.specs.Machine.{step}
 use Rattle.account_core.specs.History.{replay, entry_of}
 use Rattle.account_core.specs.Legality.{MayBeServed}
 use Rattle.account_core.proofs.Replaying.{replay_more}
+use Rattle.account_ledger.specs.declared.counts.Counts.{Counts}
 use Rattle.account_ledger.specs.declared.book.Book.{Book}
 use Rattle.account_ledger.specs.Lines.{change_at, BooksLined, LedgersLined}
 use Rattle.account_ledger.specs.Opening.{opening_account, opening_of}
@@ -35,16 +36,16 @@ pub shifted_ledgers : (mailboxes : List (List ℕ)) (leaving coming : Option Mes
 shifted_ledgers mailboxes leaving coming =
     changes_weaken {X = Told} (OnFiles (FilesShifted mailboxes leaving coming)) (OnFiles (λ files files1. (root : ℕ) → ledger_at files1 root ≡ ledger_at files root)) (λ (x y : Told) shifted. shifted.ledgers)
 
-pub order_shifted : (then now mid now' : Option Told) (faults_then faults faults' : ℕ) (setup : Setup) (epoch : ℕ) (limits : List LimitNumbers) (books books' : List Book) (deliveries deliveries' : ℕ) (history : List Entry) (caller : ℕ) (call : Call)
+pub order_shifted : (then now mid now' : Option Told) (faults_then faults faults' : ℕ) (setup : Setup) (epoch : ℕ) (limits : List LimitNumbers) (books books' : List Book) (counts counts' : Counts) (history : List Entry) (caller : ℕ) (call : Call)
     (leaving coming : Option Message) (octets : ℕ)
-    → InOrder then now faults_then faults setup epoch limits books deliveries history → length history < setup.journal → MayBeServed call
-    → IfSome (option_map (λ opening. replay setup.roots opening history) (opening_of setup epoch then)) (λ account. Moves setup leaving coming octets deliveries deliveries' account (step setup.roots account call))
+    → InOrder then now faults_then faults setup epoch limits books counts history → length history < setup.journal → MayBeServed call
+    → IfSome (option_map (λ opening. replay setup.roots opening history) (opening_of setup epoch then)) (λ account. Moves setup leaving coming octets counts counts' account (step setup.roots account call))
     → Changes (OnFiles (FilesShifted setup.mailboxes leaving coming)) now mid
     → BooksLined (length setup.roots) (change_at setup.roots (box_of leaving) (box_of coming)) octets limits books books'
     → Changes (OnFiles (LedgersLined (length setup.roots) (change_at setup.roots (box_of leaving) (box_of coming)) octets limits books books')) mid now'
-    → All (λ (book : Book). AreSmall book.totals) books' → faults ≤ faults' → deliveries' ≤ length history + 1
-    → InOrder then now' faults_then faults' setup epoch limits books' deliveries' (history ++ entry_of caller call false ∷ [])
-order_shifted then now mid now' faults_then faults faults' setup epoch limits books books' deliveries deliveries' history caller call leaving coming octets order room served moves rows lined lines small later delivered =
+    → All (λ (book : Book). AreSmall book.totals) books' → faults ≤ faults' → counts'.deliveries ≤ length history + 1 → counts'.generation ≤ length history + 1
+    → InOrder then now' faults_then faults' setup epoch limits books' counts' (history ++ entry_of caller call false ∷ [])
+order_shifted then now mid now' faults_then faults faults' setup epoch limits books books' counts counts' history caller call leaving coming octets order room served moves rows lined lines small later delivered changed =
     let entry = entry_of caller call false in
     let long = length_push history entry in
     record {
@@ -53,17 +54,18 @@ order_shifted then now mid now' faults_then faults faults' setup epoch limits bo
       served = served_more history entry order.served served;
       excused = excused_still faults_then faults faults' history caller call order.excused later;
       delivered = omega (arith, long, delivered);
+      changed = omega (arith, long, changed);
       limits_each = order.limits_each;
       books_each = lined.count ∙ order.books_each;
       small = small;
       held = by then now mid now' order.held moves rows lines;
     }
   where
-    by : (t n m n' : Option Told) → Changes (λ x y. Holds setup limits books deliveries (length history) (replay setup.roots (opening_account setup epoch x.files) history) y.files) t n
-        → IfSome (option_map (λ opening. replay setup.roots opening history) (opening_of setup epoch t)) (λ account. Moves setup leaving coming octets deliveries deliveries' account (step setup.roots account call))
+    by : (t n m n' : Option Told) → Changes (λ x y. Holds setup limits books counts (length history) (replay setup.roots (opening_account setup epoch x.files) history) y.files) t n
+        → IfSome (option_map (λ opening. replay setup.roots opening history) (opening_of setup epoch t)) (λ account. Moves setup leaving coming octets counts counts' account (step setup.roots account call))
         → Changes (OnFiles (FilesShifted setup.mailboxes leaving coming)) n m
         → Changes (OnFiles (LedgersLined (length setup.roots) (change_at setup.roots (box_of leaving) (box_of coming)) octets limits books books')) m n'
-        → Changes (λ x y. Holds setup limits books' deliveries' (length (history ++ entry_of caller call false ∷ [])) (replay setup.roots (opening_account setup epoch x.files) (history ++ entry_of caller call false ∷ [])) y.files) t n'
+        → Changes (λ x y. Holds setup limits books' counts' (length (history ++ entry_of caller call false ∷ [])) (replay setup.roots (opening_account setup epoch x.files) (history ++ entry_of caller call false ∷ [])) y.files) t n'
     by None None None None held moves rows lines = tt
     by None None None (Some n') held moves rows lines = absurd lines
     by None None (Some m) n' held moves rows lines = absurd rows
@@ -74,6 +76,6 @@ order_shifted then now mid now' faults_then faults faults' setup epoch limits bo
     by (Some t) (Some n) (Some m) (Some n') held moves rows lines =
         let account = replay setup.roots (opening_account setup epoch t.files) history in
         rw (length_push history (entry_of caller call false), replay_more setup.roots (opening_account setup epoch t.files) history (entry_of caller call false))
-        (holds_shifted setup leaving coming octets deliveries deliveries' (length history) limits books books' account (step setup.roots account call) n.files m.files n'.files
+        (holds_shifted setup leaving coming octets counts counts' (length history) limits books books' account (step setup.roots account call) n.files m.files n'.files
         order.sound.mailboxes (omega (arith, order.sound.most_room, room)) moves
         (subst (λ boxes. RowsShifted boxes leaving coming n.files.rows m.files.rows) (sym held.mailboxes_are) rows.rows) rows.ledgers lined lines held)

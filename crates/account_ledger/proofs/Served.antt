@@ -6,7 +6,7 @@ use Rattle.keeper.specs.Files.{Files, Row, ledger_at}
 use Rattle.keeper.specs.Calls.{Told, Changes}
 use Rattle.keeper.specs.Causes.{Rose, HasCause}
 use Rattle.account_core.specs.declared.calls.Call.{Call}
-use Rattle.account_core.specs.declared.calls.Call.TheVariants.{Deliver, Check, Quota, SetLimits, Roots}
+use Rattle.account_core.specs.declared.calls.Call.TheVariants.{Deliver, Check, Quota, SetLimits, Roots, Remove, Mark, Move, Status, ScanBegin, ScanPart, Install}
 use Rattle.account_core.specs.declared.calls.Entry.{Entry}
 use Rattle.account_core.specs.declared.calls.Reply.{Reply}
 use Rattle.account_core.specs.declared.calls.StepError.{StepError}
@@ -143,6 +143,13 @@ module _ (s : State) (reserved : ℕ) where
 pub question_quiet : (call : Call) (given : Reply) → IsQuestion call → (n n' : State) → StayCalm n n' → WritesFor call given n n'
 question_quiet (Deliver mailbox octets flags) given question n n' calm = absurd question
 question_quiet (SetLimits name limits) given question n n' calm = absurd question
+question_quiet (Remove mailbox base) given question n n' calm = absurd question
+question_quiet (Mark mailbox base flags) given question n n' calm = absurd question
+question_quiet (Move from base to) given question n n' calm = absurd question
+question_quiet (Status mailbox) given question n n' calm = absurd question
+question_quiet ScanBegin given question n n' calm = absurd question
+question_quiet (ScanPart index) given question n n' calm = absurd question
+question_quiet (Install generation) given question n n' calm = absurd question
 question_quiet (Check octets) given question n n' calm = calm
 question_quiet (Quota name) given question n n' calm = calm
 question_quiet (Roots mailbox) given question n n' calm = calm
@@ -150,6 +157,13 @@ question_quiet (Roots mailbox) given question n n' calm = calm
 pub question_rows : (call : Call) (bytes : List ℕ) (given : Reply) → IsQuestion call → (epoch : ℕ) (rows : List Row) → RowsFor epoch call bytes given rows rows
 question_rows (Deliver mailbox octets flags) bytes given question epoch rows = absurd question
 question_rows (SetLimits name limits) bytes given question epoch rows = absurd question
+question_rows (Remove mailbox base) bytes given question epoch rows = absurd question
+question_rows (Mark mailbox base flags) bytes given question epoch rows = absurd question
+question_rows (Move from base to) bytes given question epoch rows = absurd question
+question_rows (Status mailbox) bytes given question epoch rows = absurd question
+question_rows ScanBegin bytes given question epoch rows = absurd question
+question_rows (ScanPart index) bytes given question epoch rows = absurd question
+question_rows (Install generation) bytes given question epoch rows = absurd question
 question_rows (Check octets) bytes given question epoch rows = refl
 question_rows (Quota name) bytes given question epoch rows = refl
 question_rows (Roots mailbox) bytes given question epoch rows = refl

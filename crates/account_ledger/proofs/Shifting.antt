@@ -16,6 +16,7 @@ use Rattle.admission.specs.Fitting.{limits_at}
 use Rattle.account_core.specs.Account.{Account, Message, usage}
 use Rattle.account_core.specs.Delivering.{delivered_base}
 use Rattle.account_core.proofs.Admitting.{totals_at-usages}
+use Rattle.account_ledger.specs.declared.counts.Counts.{Counts}
 use Rattle.account_ledger.specs.declared.book.Book.{Book}
 use Rattle.account_ledger.specs.declared.book.Standing.{Standing}
 use Rattle.account_ledger.specs.declared.book.Standing.TheVariants.{Settled, Doubt}
@@ -180,31 +181,32 @@ module _ (setup : Setup) (limits : List LimitNumbers) (books books' : List Book)
 
 
 -- What a call that moves a message, or brings or removes one, has to show of the account.
-pub record Moves (setup : Setup) (leaving coming : Option Message) (octets deliveries deliveries' : ℕ) (account account' : Account) : Type 0 where
+pub record Moves (setup : Setup) (leaving coming : Option Message) (octets : ℕ) (counts counts' : Counts) (account account' : Account) : Type 0 where
   pub limits : account'.limits ≡ account.limits
   pub mailboxes : account'.mailboxes ≡ account.mailboxes
   pub epoch : account'.epoch ≡ account.epoch
-  pub deliveries_are : account'.deliveries ≡ deliveries'
-  pub later : deliveries ≤ deliveries'
+  pub deliveries_are : account'.deliveries ≡ counts'.deliveries
+  pub generation_is : account'.generation ≡ counts'.generation
+  pub later : counts.deliveries ≤ counts'.deliveries
   pub shifted : Shifted leaving coming account.messages account'.messages
   pub has : HasOctets octets leaving
   pub had : HasOctets octets coming
   pub small : octets < 1000000000000000000
   pub grows : weight_of (λ m. m.octets) coming ≤ weight_of (λ m. m.octets) leaving + 67108864
   pub free : (m : Message) → coming ≡ Some m → how_many m.mailbox m.base account.messages ≡ weight_of (λ x. cond (is_message m.mailbox m.base x) 1 0) leaving
-  pub other : (m : Message) → coming ≡ Some m → (number : ℕ) → deliveries' < number → number < 2 ^ 64 → m.base ≢ delivered_base account.epoch number
+  pub other : (m : Message) → coming ≡ Some m → (number : ℕ) → counts'.deliveries < number → number < 2 ^ 64 → m.base ≢ delivered_base account.epoch number
 
 one_at_most : (message : Option Message) → weight_of (λ m. 1) message ≤ 1
 one_at_most None = omega arith
 one_at_most (Some m) = omega arith
 
-pub holds_shifted : (setup : Setup) (leaving coming : Option Message) (octets deliveries deliveries' entries : ℕ) (limits : List LimitNumbers) (books books' : List Book) (account account' : Account) (files files1 files' : Files)
-    → AreMailboxes setup.mailboxes → entries + 1 ≤ 524288 → Moves setup leaving coming octets deliveries deliveries' account account'
+pub holds_shifted : (setup : Setup) (leaving coming : Option Message) (octets : ℕ) (counts counts' : Counts) (entries : ℕ) (limits : List LimitNumbers) (books books' : List Book) (account account' : Account) (files files1 files' : Files)
+    → AreMailboxes setup.mailboxes → entries + 1 ≤ 524288 → Moves setup leaving coming octets counts counts' account account'
     → RowsShifted account.mailboxes leaving coming files.rows files1.rows → ((root : ℕ) → ledger_at files1 root ≡ ledger_at files root)
     → BooksLined (length setup.roots) (change_at setup.roots (box_of leaving) (box_of coming)) octets limits books books'
     → LedgersLined (length setup.roots) (change_at setup.roots (box_of leaving) (box_of coming)) octets limits books books' files1 files'
-    → Holds setup limits books deliveries entries account files → Holds setup limits books' deliveries' (entries + 1) account' files'
-holds_shifted setup leaving coming octets deliveries deliveries' entries limits books books' account account' files files1 files' sound most moves rows same lined ledgers holds =
+    → Holds setup limits books counts entries account files → Holds setup limits books' counts' (entries + 1) account' files'
+holds_shifted setup leaving coming octets counts counts' entries limits books books' account account' files files1 files' sound most moves rows same lined ledgers holds =
     let changes = change_at setup.roots (box_of leaving) (box_of coming) in
     let different : are_different account.mailboxes ≡ true = ap are_different holds.mailboxes_are ∙ sound.different in
     let o = moves.shifted.sums (λ m. m.octets) in
@@ -219,6 +221,7 @@ holds_shifted setup leaving coming octets deliveries deliveries' entries limits 
       limits_are = moves.limits ∙ holds.limits_are;
       mailboxes_are = moves.mailboxes ∙ holds.mailboxes_are;
       deliveries_are = moves.deliveries_are;
+      generation_is = moves.generation_is;
       stand = subst (λ rows. StandFor rows account') (sym ledgers.rows) (stand_shifted leaving coming account account' files.rows files1.rows different moves.mailboxes moves.shifted rows holds.stand);
       bounded = bounded;
       few = few;

@@ -18,6 +18,7 @@ ghost use Rattle.account_ledger.specs.Settling.{OnFiles};
 ghost use Rattle.account_ledger.specs.States.{standing_at};
 
 use crate::AccountState;
+use crate::counts::Counts;
 use crate::fault::step_error;
 use crate::lines::post_all;
 use account_core::{Call, Entry, Reply, StepError, delivered_base};
@@ -176,7 +177,7 @@ impl<K: Keeper> AccountState<K> {
         ensures cause { result ≡ Err StepError.Store → Rose self.old.faults self.new.faults }
         ensures never_full { (limit : ℕ) → result ≢ Err (StepError.JournalFull limit) }
     {
-        let number = self.deliveries + 1;
+        let number = self.counts.deliveries + 1;
         let name = message_name(alloc, self.epoch, number, octets, flags)?;
         if let Err(fault) = self.keeper.put(alloc, mailbox.as_slice(), &name, bytes) {
             let call = Call::Deliver {
@@ -197,7 +198,10 @@ impl<K: Keeper> AccountState<K> {
             Some(mailbox.as_slice()),
             octets,
         );
-        self.deliveries = number;
+        self.counts = Counts {
+            deliveries: number,
+            generation: self.counts.generation + 1,
+        };
         self.history.push_reserved(Entry {
             caller,
             call: Call::Deliver {

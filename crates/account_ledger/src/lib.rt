@@ -3,6 +3,7 @@
 
 mod book;
 mod change;
+mod counts;
 mod deliver;
 mod fault;
 mod limits;

@@ -7,7 +7,7 @@ ghost use Rattle.account_core.specs.Machine.{governing_rows, over_in, reply_of};
 ghost use Rattle.account_ledger.specs.Rows.{IsVerdict};
 ghost use Rattle.keeper.specs.Causes.{HasCause, Rose};
 ghost use Rattle.account_ledger.specs.Order.{IsInOrder};
-ghost use Rattle.account_ledger.specs.Serving.{Opened, OfAccount, SettlesSome, Enters, HasBytes, IsQuestion, Leaves, Serves, ServesLedgers, ServesRows, is_place, misses, needs};
+ghost use Rattle.account_ledger.specs.Serving.{Opened, OfAccount, SettlesSome, Enters, HasBytes, IsQuestion, IsServed, Leaves, Serves, ServesLedgers, ServesRows, is_place, misses, needs};
 ghost use Rattle.account_core.specs.Legality.{MayBeServed, fault_count};
 ghost use Rattle.account_core.specs.History.{entry_of};
 ghost use Rattle.keeper.specs.Calls.{Changes};
@@ -18,6 +18,7 @@ ghost use Rattle.account_ledger.specs.States.{IsOpened, standing_at, usage_at};
 ghost use Rattle.account_ledger.specs.declared.book.Standing.TheVariants.{Settled};
 
 use crate::book::{Book, Standing};
+use crate::counts::Counts;
 use crate::fault::{check_reply, step_error};
 use crate::open::{OpenError, OpenFault, admit_files, doubtful};
 use crate::rows::{are_limits, rows_of, totals_of};
@@ -43,7 +44,7 @@ pub struct AccountState<K: Keeper> {
     pub(crate) epoch: u64,
     pub(crate) limits: Vec<Limits>,
     pub(crate) books: Vec<Book>,
-    pub(crate) deliveries: u64,
+    pub(crate) counts: Counts,
     pub(crate) history: Vec<Entry>,
 }
 
@@ -71,7 +72,7 @@ impl<K: Keeper> Model for AccountState<K> {
       lengths = lengths_of a.books.items;
     } };
 
-    ghost invariant = { λ a. InOrder (K.told a.opened.value) (K.told a.keeper) (K.faults a.opened.value) (K.faults a.keeper) a.setup a.epoch a.limits.items a.books.items a.deliveries a.history.items };
+    ghost invariant = { λ a. InOrder (K.told a.opened.value) (K.told a.keeper) (K.faults a.opened.value) (K.faults a.keeper) a.setup a.epoch a.limits.items a.books.items a.counts a.history.items };
 }
 
 impl<K: Keeper> AccountState<K> {
@@ -119,7 +120,10 @@ impl<K: Keeper> AccountState<K> {
             epoch,
             limits,
             books,
-            deliveries: 0,
+            counts: Counts {
+                deliveries: 0,
+                generation: 0,
+            },
             history: Vec::new(alloc),
         };
         state.is_in_order();
@@ -169,7 +173,7 @@ impl<K: Keeper> AccountState<K> {
         call: Call,
         bytes: &[u8],
     ) -> Result<Reply, StepError>
-        requires served { MayBeServed call }
+        requires served { IsServed call }
         requires bytes { HasBytes call bytes.now }
         ensures opened { Opened self.old self.new }
         ensures enters { Enters caller call result self.old.history self.new.history }
@@ -201,7 +205,7 @@ impl<K: Keeper> AccountState<K> {
         call: Call,
         bytes: &[u8],
     ) -> Result<Reply, StepError>
-        requires served { MayBeServed call }
+        requires served { IsServed call }
         requires bytes { HasBytes call bytes.now }
         requires room { length self.old.history < self.old.setup.journal }
         requires held { length self.old.history < self.old.reserved }
@@ -304,7 +308,15 @@ impl<K: Keeper> AccountState<K> {
             Call::Quota { root } => self.quota(alloc, root.as_slice()),
             Call::Roots { mailbox } => self.roots(alloc, mailbox.as_slice()),
             Call::Check { octets } => self.check(alloc, *octets),
-            Call::Deliver { .. } | Call::SetLimits { .. } => unreachable!(),
+            Call::Deliver { .. }
+            | Call::SetLimits { .. }
+            | Call::Remove { .. }
+            | Call::Mark { .. }
+            | Call::Move { .. }
+            | Call::Status { .. }
+            | Call::ScanBegin
+            | Call::ScanPart { .. }
+            | Call::Install { .. } => unreachable!(),
         }
     }
 
