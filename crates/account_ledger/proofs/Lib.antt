@@ -4,6 +4,7 @@ pub mod SettleLemmas
 pub mod LineLemmas
 pub mod Sums
 pub mod Weighing
+pub mod NamedFiles
 pub mod UsageLemmas
 pub mod Keeping
 pub mod Posting
