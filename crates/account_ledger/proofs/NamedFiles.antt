@@ -13,11 +13,8 @@ use Rattle.account_core.specs.Account.{Message}
 use Rattle.account_core.specs.Messages.{is_message, named_message}
 use Rattle.account_ledger.specs.Messages.{message_in, messages_of, messages_in}
 use Rattle.account_ledger.specs.Opening.{base_in}
+use Rattle.account_ledger.specs.NamedFiles.{file_named}
 use Rattle.account_ledger.proofs.Weighing.{weigh, told_by, is_mailbox_of}
-
--- the first of the files that has this base
-abbrev pub file_named : List ℕ → List FileRow → Option FileRow
-file_named base files = find (λ file. bytes_eq (base_in file) base) files
 
 same_bytes : (xs : List ℕ) → bytes_eq xs xs ≡ true
 same_bytes xs = (bytes_eq-Decides xs xs).1 refl

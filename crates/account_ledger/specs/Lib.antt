@@ -5,6 +5,7 @@ pub mod Ledgers
 pub mod Settling
 pub mod Lines
 pub mod Opening
+pub mod NamedFiles
 pub mod States
 pub mod Rows
 pub mod Order

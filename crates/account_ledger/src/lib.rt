@@ -8,6 +8,7 @@ mod deliver;
 mod fault;
 mod limits;
 mod lines;
+mod named;
 mod open;
 mod rows;
 mod scan;
