@@ -190,7 +190,7 @@ zero_row mailboxes mailbox name base there is row zero = step (bytes_eq row.mail
         let z : cond (is_mailbox_of mailboxes row.mailbox) (cond (bytes_eq row.mailbox mailbox && bytes_eq (base_of row.name) base) 1 0) 0 ≡ 0 = zero in
         absurd (let y = rw (g, box, k) at z in omega arith)
 
-no_row : (mailboxes : List (List ℕ)) (mailbox name base : List ℕ) → is_mailbox_of mailboxes mailbox ≡ true → base_of name ≡ base → (rows : List Row)
+pub no_row : (mailboxes : List (List ℕ)) (mailbox name base : List ℕ) → is_mailbox_of mailboxes mailbox ≡ true → base_of name ≡ base → (rows : List Row)
     → sum_by (weigh (λ m. cond (is_message mailbox base m) 1 0) mailboxes) rows ≡ 0 → has_row mailbox name rows ≡ false
 no_row mailboxes mailbox name base there is [] zero = refl
 no_row mailboxes mailbox name base there is (row ∷ rows) zero =

@@ -16,6 +16,8 @@ pub mod Answering
 pub mod Entering
 pub mod Ordering
 pub mod Delivering
+pub mod Found
+pub mod Removing
 pub mod Lined
 pub mod Served
 pub mod OpenLemmas
