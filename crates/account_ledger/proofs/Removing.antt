@@ -16,9 +16,27 @@ use Rattle.account_core.specs.Machine.{has_mailbox, if_message, message_reply, r
 use Rattle.account_core.proofs.MessageSums.{named_mailbox, named_base}
 use Rattle.account_ledger.specs.declared.counts.Counts.{Counts}
 use Rattle.account_ledger.specs.declared.book.Book.{Book}
-use Rattle.account_ledger.specs.Order.{Holds}
+use Rattle.account_ledger.specs.Order.{Holds, InOrder}
+use Rattle.std.specs.Prelude.{IfSome}
+use Rattle.std.specs.Option.{option_map}
+use Rattle.keeper.specs.Files.{listed, has_row, removed as removed_row}
+use Rattle.keeper.specs.Calls.{Told, Changes}
+use Rattle.keeper.specs.declared.rows.FileRow.{FileRow}
+use Rattle.message_names.specs.Parts.{unique_of}
+use Rattle.message_names.specs.Sizes.{size_named, size_or}
+use Rattle.account_core.specs.declared.calls.Entry.{Entry}
+use Rattle.account_core.specs.History.{replay}
+use Rattle.account_ledger.specs.Messages.{message_in}
+use Rattle.account_ledger.specs.NamedFiles.{file_named}
+use Rattle.account_ledger.specs.Opening.{opening_of}
+use Rattle.account_ledger.specs.Serving.{HasNamed}
+use Rattle.account_ledger.specs.Settling.{OnFiles}
+use Rattle.account_ledger.proofs.Weighing.{is_mailbox_of}
+use Rattle.account_ledger.proofs.NamedFiles.{row_there, file_has_base}
+use Rattle.account_ledger.proofs.Ordering.{FilesShifted}
+use Rattle.account_ledger.proofs.Replying.{of_weaker}
 use Rattle.account_ledger.proofs.Shifting.{Shifted, Moves}
-use Rattle.account_ledger.proofs.Found.{removed_shifted, changed_shifted}
+use Rattle.account_ledger.proofs.Found.{of_both_told, named_by, removed_shifted, changed_shifted, files_removed}
 
 -- after one more removal or move
 abbrev pub one_changed : Counts → Counts
@@ -95,3 +113,76 @@ module _ (setup : Setup) (limits : List LimitNumbers) (books : List Book) (count
 
       self : is_message message.mailbox message.base message ≡ true
       self = rw ((bytes_eq-Decides message.mailbox message.mailbox).1 refl, (bytes_eq-Decides message.base message.base).1 refl) refl
+
+-- the row of a mailbox and a name is gone
+abbrev pub RowRemoved : List ℕ → List ℕ → Told → Told → Type 0
+RowRemoved mailbox name told told' = told'.files ≡ record told.files { rows = removed_row mailbox name told.files.rows }
+
+message_of_some : (mailbox : List ℕ) (file : FileRow) (o : Option FileRow) → Some file ≡ o → option_map (message_in mailbox) o ≡ Some (message_in mailbox file)
+message_of_some mailbox file o is = ap (option_map (message_in mailbox)) (sym is)
+
+-- no message has 10 ^ 18 octets
+pub octets_small : (mailbox : List ℕ) (file : FileRow) → (message_in mailbox file).octets < 1000000000000000000
+octets_small mailbox file = by (size_named (unique_of file.name))
+  where
+    by : (o : Option ℕ) → size_or o file.length < 1000000000000000000
+    by None = omega arith
+    by (Some size) = omega arith
+
+module _ (then now : Option Told) (faults_then faults : ℕ) (setup : Setup) (epoch : ℕ) (limits : List LimitNumbers) (books : List Book) (counts : Counts) (history : List Entry) (mailbox base : List ℕ)
+    (order : InOrder then now faults_then faults setup epoch limits books counts history) (there : is_mailbox_of setup.mailboxes mailbox ≡ true) where
+  abbrev pub Of : (Account → Type 0) → Type 0
+  Of P = IfSome (option_map (λ opening. replay setup.roots opening history) (opening_of setup epoch then)) P
+
+  inside : (account : Account) (files : Files) → Holds setup limits books counts (length history) account files → has_mailbox account mailbox ≡ true
+  inside account files holds = ap (λ boxes. is_mailbox_of boxes mailbox) holds.mailboxes_are ∙ there
+
+  module _ (file : FileRow) (found : IfSome now (λ t. Some file ≡ file_named base (listed mailbox t.files.rows))) where
+    with_message : (P : Account → Type 0)
+        → ((account : Account) (files : Files) → Holds setup limits books counts (length history) account files → has_mailbox account mailbox ≡ true → named_message mailbox base account.messages ≡ Some (message_in mailbox file) → P account)
+        → Of P
+    with_message P fact =
+        of_both_told then now faults_then faults setup epoch limits books counts history P (λ t. Some file ≡ file_named base (listed mailbox t.files.rows))
+        (λ account t holds is. fact account t.files holds (inside account t.files holds)
+        (named_by setup limits books counts (length history) account t.files mailbox base (Some file) holds there is)) order found
+
+    pub moves_removed : Of (λ account. Moves setup (Some (message_in mailbox file)) None (message_in mailbox file).octets counts (one_changed counts) account (step setup.roots account (Remove mailbox base)))
+    moves_removed =
+        with_message (λ account. Moves setup (Some (message_in mailbox file)) None (message_in mailbox file).octets counts (one_changed counts) account (step setup.roots account (Remove mailbox base)))
+        (λ account files holds has named. removal_moves setup limits books counts (length history) account files mailbox base (message_in mailbox file) holds has named (octets_small mailbox file))
+
+    pub moves_marked : (flags : Flags) → Of (λ account. Moves setup (Some (message_in mailbox file)) (Some (with_flags flags (message_in mailbox file))) (message_in mailbox file).octets counts counts account (step setup.roots account (Mark mailbox base flags)))
+    moves_marked flags =
+        with_message (λ account. Moves setup (Some (message_in mailbox file)) (Some (with_flags flags (message_in mailbox file))) (message_in mailbox file).octets counts counts account (step setup.roots account (Mark mailbox base flags)))
+        (λ account files holds has named. mark_moves setup limits books counts (length history) account files mailbox base (message_in mailbox file) holds has named (octets_small mailbox file) flags)
+
+    pub replied : (given : Reply) → Of (λ account. given ≡ message_reply account mailbox base given)
+    replied given =
+        with_message (λ account. given ≡ message_reply account mailbox base given)
+        (λ account files holds has named. sym (message_replied account mailbox base (message_in mailbox file) given has named))
+
+    pub has_named : Of (HasNamed mailbox base (message_in mailbox file).octets)
+    has_named = with_message (HasNamed mailbox base (message_in mailbox file).octets) (λ account files holds has named. ap (λ o. option_map (λ (m : Message). m.octets) o) named)
+
+    pub file_there : IfSome now (λ t. has_row mailbox file.name t.files.rows ≡ true)
+    file_there =
+        of_weaker (λ (t : Told). Some file ≡ file_named base (listed mailbox t.files.rows)) (λ t. has_row mailbox file.name t.files.rows ≡ true)
+        (λ t is. row_there mailbox base file t.files.rows (sym is) (file_has_base mailbox base file t.files.rows (sym is))) now found
+
+    pub shifts_removed : (mid : Option Told) → Changes (RowRemoved mailbox file.name) now mid
+        → Changes (OnFiles (FilesShifted setup.mailboxes (Some (message_in mailbox file)) None)) now mid
+    shifts_removed mid changes = by now mid found changes
+      where
+        by : (n m : Option Told) → IfSome n (λ t. Some file ≡ file_named base (listed mailbox t.files.rows)) → Changes (RowRemoved mailbox file.name) n m
+            → Changes (OnFiles (FilesShifted setup.mailboxes (Some (message_in mailbox file)) None)) n m
+        by None None found changes = tt
+        by None (Some m) found changes = absurd changes
+        by (Some n) None found changes = absurd changes
+        by (Some n) (Some m) found changes = files_removed setup.mailboxes mailbox base file n.files m.files there found changes
+
+  -- there is no such message
+  module _ (found : IfSome now (λ t. None ≡ file_named base (listed mailbox t.files.rows))) where
+    pub missing : Of (λ account. named_message mailbox base account.messages ≡ None)
+    missing =
+        of_both_told then now faults_then faults setup epoch limits books counts history (λ account. named_message mailbox base account.messages ≡ None) (λ t. None ≡ file_named base (listed mailbox t.files.rows))
+        (λ account t holds is. named_by setup limits books counts (length history) account t.files mailbox base None holds there is) order found

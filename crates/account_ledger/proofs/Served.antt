@@ -18,7 +18,7 @@ use Rattle.account_ledger.specs.declared.book.Standing.{Standing}
 use Rattle.account_ledger.specs.declared.book.Standing.TheVariants.{Settled, Doubt}
 use Rattle.account_ledger.specs.Settling.{OnFiles, MarksOne}
 use Rattle.account_ledger.specs.States.{State, standing_at, account_of}
-use Rattle.account_ledger.specs.Serving.{Opened, Enters, OfAccount, SettlesSome, SettlesLedgers, IsSettledNow, IsQuestion, LedgersStay, StayCalm, SettledFor, ServesLedgers, ServesRows, RowsFor, Serves, WritesBy, WritesFor, misses, needs}
+use Rattle.account_ledger.specs.Serving.{Opened, Enters, OfAccount, SettlesSome, SettlesLedgers, AreFolded, IsSettledNow, IsQuestion, LedgersStay, StayCalm, SettledFor, ServesLedgers, ServesRows, RowsFor, Serves, WritesBy, WritesFor, misses, needs}
 use Rattle.quota_roots.specs.declared.root.RootSpec.{RootSpec}
 use Rattle.quota_roots.specs.declared.setup.Setup.{Setup}
 use Rattle.account_ledger.proofs.Answering.{same_account}
@@ -214,3 +214,28 @@ serves_then caller call bytes result s m s' settles opened same calm all opened'
     serves_by caller call bytes result s m s' settles opened (omega (arith, calm)) (λ not. calm) (settled_ok result (needs s.setup.roots call) s m there all)
     opened' writes (subst (λ e. Changes (OnFiles (λ files files'. ServesRows e call bytes result files.rows files'.rows)) m.told s'.told) opened.epoch rows)
     (enters_moved caller call result s.history m.history s'.history same enters) (reply_moved result call s m opened same reply) (λ store. subst (λ f. Rose f s'.faults) calm (cause store))
+
+-- where ledgers and rows stay, nothing is settled
+pub settles_still : (may : ℕ → Bool) (s m : State) → LedgersStay s m → Changes (OnFiles (λ files files'. files'.rows ≡ files.rows)) s.told m.told → SettlesSome may s m
+settles_still may s m stay rows = record {
+  files = both s.told m.told rows stay.ledgers;
+  texts = every (account_of s) s.told m.told rows;
+  count = ap length stay.standings;
+  each = λ root. inl (ap (λ ss. standing_at ss root) stay.standings);
+  appends = stay.appends;
+}
+  where
+    both : (t n : Option Told) → Changes (OnFiles (λ files files'. files'.rows ≡ files.rows)) t n → Changes (OnFiles (λ files files'. (root : ℕ) → ledger_at files' root ≡ ledger_at files root)) t n
+        → Changes (OnFiles (SettlesLedgers may s.standings m.standings)) t n
+    both None None rows ledgers = tt
+    both None (Some n) rows ledgers = absurd rows
+    both (Some t) None rows ledgers = absurd rows
+    both (Some t) (Some n) rows ledgers = record { rows = rows; each = λ root. inl (ledgers root) }
+
+    folded_none : (account : Account) (t n : Option Told) → Changes (OnFiles (λ files files'. files'.rows ≡ files.rows)) t n → Changes (OnFiles (AreFolded s.setup.roots account s.standings m.standings)) t n
+    folded_none account =
+        changes_weaken {X = Told} _ _ (λ (x y : Told) same root doubt settled. let e : Settled ≡ Doubt = sym settled ∙ ap (λ ss. standing_at ss root) stay.standings ∙ doubt in absurd (cc))
+
+    every : (o : Option Account) (t n : Option Told) → Changes (OnFiles (λ files files'. files'.rows ≡ files.rows)) t n → IfSome o (λ account. Changes (OnFiles (AreFolded s.setup.roots account s.standings m.standings)) t n)
+    every None t n same = tt
+    every (Some account) t n same = folded_none account t n same

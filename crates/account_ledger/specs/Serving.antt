@@ -1,5 +1,6 @@
 -- What calls do to the state of an account.
-use Rattle.std.specs.Prelude.{◌≡◌, ◌≢◌, ◌⊎◌, ◌≤◌, ℕ, Bool, true, false, not, ◌&&◌, nat_eq, codes, if◌then◌else◌, List, [], ◌∷◌, ◌++◌, length, sum_by, Option, Some, None, Result, Ok, Err, IfSome, IfOk}
+use Rattle.std.specs.Prelude.{◌≡◌, ◌≢◌, ◌⊎◌, ◌≤◌, ℕ, Bool, true, false, not, ◌&&◌, nat_eq, codes, if◌then◌else◌, List, [], ◌∷◌, ◌++◌, length, sum_by, Option, Some, None, Result, Ok, Err, IfSome, IfOk, MatchBool, bytes_eq}
+use Rattle.std.specs.Option.{option_map}
 use Rattle.std.specs.List.{range_with_len}
 use Rattle.quota_roots.specs.declared.root.RootSpec.{RootSpec}
 use Rattle.quota_roots.specs.Governing.{governs_at}
@@ -8,16 +9,18 @@ use Rattle.account_core.specs.declared.calls.Call.{Call}
 use Rattle.account_core.specs.declared.calls.Call.TheVariants.{Deliver, Check, Remove, Mark, Move, Quota, SetLimits, Roots, Status, ScanBegin, ScanPart, Install}
 use Rattle.account_core.specs.declared.calls.Entry.{Entry}
 use Rattle.account_core.specs.declared.calls.Reply.{Reply}
-use Rattle.account_core.specs.declared.calls.Reply.TheVariants.{Delivered, LimitsSet, NoMailbox, NoMessage, NameTaken, NoRoot}
+use Rattle.account_core.specs.declared.calls.Reply.TheVariants.{Delivered, Removed, Marked, Moved, LimitsSet, NoMailbox, NoMessage, NameTaken, NoRoot}
 use Rattle.account_core.specs.declared.calls.RootRow.{RootRow}
 use Rattle.account_core.specs.Delivering.{delivered_base}
-use Rattle.message_names.specs.Written.{written_name}
+use Rattle.message_names.specs.Written.{written_name, renamed as with_flags}
+use Rattle.account_core.specs.Messages.{named_message}
 use Rattle.admission.specs.Fitting.{limits_at}
 use Rattle.account_core.specs.declared.calls.StepError.{StepError}
 use Rattle.account_core.specs.declared.calls.StepError.TheVariants.{NoMemory, Store, JournalFull}
 use Rattle.account_core.specs.Machine.{step, reply_of}
 use Rattle.account_core.specs.History.{entry_of}
-use Rattle.keeper.specs.Files.{Files, Row, ledger_at}
+use Rattle.keeper.specs.Files.{Files, Row, listed, removed, renamed, ledger_at}
+use Rattle.keeper.specs.declared.rows.FileRow.{FileRow}
 use Rattle.keeper.specs.Calls.{Changes, Writes}
 use Rattle.keeper.specs.Causes.{Rose}
 use Rattle.account_core.specs.Account.{Account}
@@ -25,6 +28,7 @@ use Rattle.account_ledger.specs.declared.book.Standing.{Standing}
 use Rattle.account_ledger.specs.declared.book.Standing.TheVariants.{Settled, Doubt}
 use Rattle.account_ledger.specs.Settling.{OnFiles, MarksOne}
 use Rattle.account_ledger.specs.declared.change.Change.{Change}
+use Rattle.account_ledger.specs.NamedFiles.{file_named}
 use Rattle.account_ledger.specs.Ledgers.{folded}
 use Rattle.account_ledger.specs.Lines.{change_at, line_by, has_room, LineLedger, fallen_at, HasCauses}
 use Rattle.account_ledger.specs.States.{State, standing_at, length_at, usage_at, account_of}
@@ -90,8 +94,8 @@ IsServed (Check octets) = Unit {0}
 IsServed (Quota name) = Unit {0}
 IsServed (SetLimits name limits) = Unit {0}
 IsServed (Roots mailbox) = Unit {0}
-IsServed (Remove mailbox base) = ⊥
-IsServed (Mark mailbox base flags) = ⊥
+IsServed (Remove mailbox base) = Unit {0}
+IsServed (Mark mailbox base flags) = Unit {0}
 IsServed (Move from base to) = ⊥
 IsServed (Status mailbox) = ⊥
 IsServed ScanBegin = ⊥
@@ -171,6 +175,16 @@ pub record InstallsLimits (row : RootRow) (s s' : State) : Type 0 where
   pub faults : s'.faults ≡ s.faults
   pub appends : s'.append_faults ≡ s.append_faults
 
+-- the named message has so many octets
+abbrev pub HasNamed : List ℕ → List ℕ → ℕ → Account → Type 0
+HasNamed mailbox base octets account = option_map (λ message. message.octets) (named_message mailbox base account.messages) ≡ Some octets
+
+-- the message that the mailbox and the base name goes from one mailbox to another, with its octets
+pub record WritesMove (mailbox base : List ℕ) (from to : Option (List ℕ)) (s s' : State) : Type 0 where
+  pub octets : ℕ
+  pub named : OfAccount s (HasNamed mailbox base octets)
+  pub lines : WritesLines from to octets s s'
+
 -- what a call that was replied to writes into ledgers, when the roots that it needs are settled
 abbrev pub WritesFor : Call → Reply → State → State → Type 0
 WritesFor (Deliver mailbox octets flags) (Delivered number) s s' = WritesLines None (Some mailbox) octets s s'
@@ -180,8 +194,10 @@ WritesFor (Quota name) given s s' = StayCalm s s'
 WritesFor (SetLimits name limits) (LimitsSet row) s s' = InstallsLimits row s s'
 WritesFor (SetLimits name limits) given s s' = StayCalm s s'
 WritesFor (Roots mailbox) given s s' = StayCalm s s'
+WritesFor (Remove mailbox base) Removed s s' = WritesMove mailbox base (Some mailbox) None s s'
 WritesFor (Remove mailbox base) given s s' = StayCalm s s'
 WritesFor (Mark mailbox base flags) given s s' = StayCalm s s'
+WritesFor (Move from base to) Moved s s' = MatchBool (bytes_eq from to) (StayCalm s s') (WritesMove from base (Some from) (Some to) s s')
 WritesFor (Move from base to) given s s' = StayCalm s s'
 WritesFor (Status mailbox) given s s' = StayCalm s s'
 WritesFor ScanBegin given s s' = StayCalm s s'
@@ -219,7 +235,16 @@ pub record ServesLedgers (call : Call) (result : Result Reply StepError) (s s' :
   pub calm : result ≢ Err Store → middle.faults ≡ s.faults
   pub writes : WritesBy call result middle s'
 
--- what a call that was replied to does to the message files: an accepted message is the last of them
+-- the file of the named message is gone
+abbrev pub RemovesFile : List ℕ → List ℕ → List Row → List Row → Type 0
+RemovesFile mailbox base rows rows' = (file : FileRow) × (file_named base (listed mailbox rows) ≡ Some file) × (rows' ≡ removed mailbox file.name rows)
+
+-- the file of the named message has another mailbox or another name
+abbrev pub RenamesFile : List ℕ → List ℕ → List ℕ → (List ℕ → List ℕ) → List Row → List Row → Type 0
+RenamesFile from base to name rows rows' = (file : FileRow) × (file_named base (listed from rows) ≡ Some file) × (rows' ≡ renamed from file.name to (name file.name) rows)
+
+-- What a call that was replied to does to the message files: an accepted message is the last of them, a removed one is gone, one
+-- that is marked has a name with its flags, and one that is moved keeps its name.
 abbrev pub RowsFor : ℕ → Call → List ℕ → Reply → List Row → List Row → Type 0
 RowsFor epoch (Deliver mailbox octets flags) bytes (Delivered number) rows rows' =
     rows' ≡ rows ++ record { mailbox = mailbox; name = written_name (delivered_base epoch number) octets flags; octets = bytes } ∷ []
@@ -228,8 +253,11 @@ RowsFor epoch (Check octets) bytes given rows rows' = rows' ≡ rows
 RowsFor epoch (Quota name) bytes given rows rows' = rows' ≡ rows
 RowsFor epoch (SetLimits name limits) bytes given rows rows' = rows' ≡ rows
 RowsFor epoch (Roots mailbox) bytes given rows rows' = rows' ≡ rows
+RowsFor epoch (Remove mailbox base) bytes Removed rows rows' = RemovesFile mailbox base rows rows'
 RowsFor epoch (Remove mailbox base) bytes given rows rows' = rows' ≡ rows
+RowsFor epoch (Mark mailbox base flags) bytes Marked rows rows' = RenamesFile mailbox base mailbox (λ name. with_flags name flags) rows rows'
 RowsFor epoch (Mark mailbox base flags) bytes given rows rows' = rows' ≡ rows
+RowsFor epoch (Move from base to) bytes Moved rows rows' = RenamesFile from base to (λ name. name) rows rows'
 RowsFor epoch (Move from base to) bytes given rows rows' = rows' ≡ rows
 RowsFor epoch (Status mailbox) bytes given rows rows' = rows' ≡ rows
 RowsFor epoch ScanBegin bytes given rows rows' = rows' ≡ rows

@@ -10,6 +10,7 @@ mod limits;
 mod lines;
 mod named;
 mod open;
+mod remove;
 mod rows;
 mod scan;
 mod settle;

@@ -219,6 +219,7 @@ impl<K: Keeper> AccountState<K> {
                 flags,
             } => self.deliver(alloc, caller, mailbox, octets, flags, bytes),
             Call::SetLimits { root, limits } => self.set_limits(alloc, caller, root, limits),
+            Call::Remove { mailbox, base } => self.remove(alloc, caller, mailbox, base),
             question => self.ask(alloc, caller, question, bytes),
         }
     }
