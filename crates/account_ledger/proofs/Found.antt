@@ -165,3 +165,39 @@ free_name setup limits books counts entries account files mailbox base name file
     let few = holds.apart mailbox base in
     let zero : sum_by (weigh (λ m. cond (is_message mailbox base m) 1 0) setup.mailboxes) (removed mailbox file.name files.rows) ≡ 0 = omega arith in
     sym (other_row mailbox file.name name files.rows differs) ∙ no_row setup.mailboxes mailbox name base there is (removed mailbox file.name files.rows) zero
+
+-- the file is found among those that were listed
+abbrev pub FilesListed : List ℕ → List FileRow → Told → Told → Type 0
+FilesListed mailbox files told told' = (files ≡ listed mailbox told.files.rows) × (told'.files ≡ told.files)
+
+listed_is : (mailbox base : List ℕ) (files : List FileRow) (found : Option FileRow) → found ≡ file_named base files → (now n : Option Told) → Changes (FilesListed mailbox files) now n
+    → IfSome now (λ t. found ≡ file_named base (listed mailbox t.files.rows))
+listed_is mailbox base files found is None None changes = tt
+listed_is mailbox base files found is None (Some n) changes = absurd changes
+listed_is mailbox base files found is (Some t) None changes = absurd changes
+listed_is mailbox base files found is (Some t) (Some n) changes = is ∙ ap (file_named base) changes.0
+
+pub listed_named : (then now n : Option Told) (faults_then faults : ℕ) (setup : Setup) (epoch : ℕ) (limits : List LimitNumbers) (books : List Book) (counts : Counts) (history : List Entry) (mailbox base : List ℕ) (files : List FileRow) (found : Option FileRow)
+    → InOrder then now faults_then faults setup epoch limits books counts history → is_mailbox_of setup.mailboxes mailbox ≡ true → found ≡ file_named base files → Changes (FilesListed mailbox files) now n
+    → IfSome (option_map (λ opening. replay setup.roots opening history) (opening_of setup epoch then)) (λ account. named_message mailbox base account.messages ≡ option_map (message_in mailbox) found)
+listed_named then now n faults_then faults setup epoch limits books counts history mailbox base files found order there is changes =
+    of_both_told then now faults_then faults setup epoch limits books counts history (λ account. named_message mailbox base account.messages ≡ option_map (message_in mailbox) found)
+    (λ t. found ≡ file_named base (listed mailbox t.files.rows)) (λ account t holds q. named_by setup limits books counts (length history) account t.files mailbox base found holds there q) order
+    (listed_is mailbox base files found is now n changes)
+
+-- a file that has its own mailbox and name again is as it was
+pub renamed_same : (mailbox name to other : List ℕ) (rows : List Row) → mailbox ≡ to → name ≡ other → renamed mailbox name to other rows ≡ rows
+renamed_same mailbox name to other [] box is = refl
+renamed_same mailbox name to other (row ∷ rows) box is = by (is_named mailbox name row) refl (renamed_same mailbox name to other rows box is)
+  where
+    parts : (b c : Bool) → (b && c) ≡ true → (b ≡ true) × (c ≡ true)
+    parts true c e = (refl, e)
+    parts false c e = absurd (false≢true e)
+
+    by : (b : Bool) → is_named mailbox name row ≡ b → renamed mailbox name to other rows ≡ rows → cond b (record row { mailbox = to; name = other } ∷ rows) (row ∷ renamed mailbox name to other rows) ≡ row ∷ rows
+    by true e rest =
+        let both = parts (bytes_eq row.mailbox mailbox) (bytes_eq row.name name) e in
+        let m : to ≡ row.mailbox = sym box ∙ sym ((bytes_eq-Decides row.mailbox mailbox).0 both.0) in
+        let n : other ≡ row.name = sym is ∙ sym ((bytes_eq-Decides row.name name).0 both.1) in
+        ap (λ x. record row { mailbox = x; name = other } ∷ rows) m ∙ ap (λ x. let r : Row = record row { name = x } in r ∷ rows) n
+    by false e rest = ap (λ rs. row ∷ rs) rest

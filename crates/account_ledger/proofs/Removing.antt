@@ -1,5 +1,5 @@
 -- A removal and a mark: what they make of the account.
-use Rattle.std.proofs.Common.{◌≡◌, ◌≢◌, ℕ, ◌+◌, ◌<◌, ◌≤◌, ◌^◌, Bool, true, false, cond, List, length, sum_by, bytes_eq, Option, Some, None, refl, sym, ap, ◌∙◌, subst, arith}
+use Rattle.std.proofs.Common.{◌≡◌, ◌≢◌, ◌⊎◌, ℕ, ◌+◌, ◌<◌, ◌≤◌, ◌^◌, Bool, true, false, cond, ◌&&◌, List, length, sum_by, bytes_eq, Option, Some, None, refl, sym, ap, ◌∙◌, subst, arith, inl, inr}
 use Rattle.std.proofs.lemmas.Slice.Eq.{bytes_eq-Decides}
 use Rattle.quota_units.specs.declared.flags.Flags.{Flags}
 use Rattle.quota_units.specs.Limiting.{LimitNumbers}
@@ -8,7 +8,7 @@ use Rattle.quota_roots.specs.declared.setup.Setup.{Setup}
 use Rattle.keeper.specs.Files.{Files}
 use Rattle.account_core.specs.declared.calls.Call.TheVariants.{Remove, Mark}
 use Rattle.account_core.specs.declared.calls.Reply.{Reply}
-use Rattle.account_core.specs.declared.calls.Reply.TheVariants.{NoMailbox, Removed, Marked}
+use Rattle.account_core.specs.declared.calls.Reply.TheVariants.{NoMailbox, NoMessage, Removed, Marked}
 use Rattle.account_core.specs.Account.{Account, Message}
 use Rattle.account_core.specs.Delivering.{delivered_base}
 use Rattle.account_core.specs.Messages.{is_message, named_message, how_many, removed, changed, with_flags}
@@ -19,24 +19,31 @@ use Rattle.account_ledger.specs.declared.book.Book.{Book}
 use Rattle.account_ledger.specs.Order.{Holds, InOrder}
 use Rattle.std.specs.Prelude.{IfSome}
 use Rattle.std.specs.Option.{option_map}
-use Rattle.keeper.specs.Files.{listed, has_row, removed as removed_row}
+use Rattle.keeper.specs.Files.{listed, has_row, ledger_at, removed as removed_row, renamed as renamed_row}
 use Rattle.keeper.specs.Calls.{Told, Changes}
 use Rattle.keeper.specs.declared.rows.FileRow.{FileRow}
-use Rattle.message_names.specs.Parts.{unique_of}
+use Rattle.message_names.specs.Parts.{unique_of, base_of}
+use Rattle.message_names.specs.Messages.{FileMessage, message_of, octets_of}
+use Rattle.quota_roots.specs.Governing.{governs_at}
+use Rattle.std.proofs.lemmas.Bool.{false≢true}
+use Rattle.account_ledger.specs.declared.book.Standing.{Standing}
+use Rattle.account_ledger.specs.Lines.{change_by, change_at, BookLined, LedgerLined, BooksLined, LedgersLined}
+use Rattle.account_ledger.proofs.Changing.{changes_same}
+use Rattle.account_ledger.proofs.Entering.{of_every}
 use Rattle.message_names.specs.Sizes.{size_named, size_or}
 use Rattle.account_core.specs.declared.calls.Entry.{Entry}
 use Rattle.account_core.specs.History.{replay}
 use Rattle.account_ledger.specs.Messages.{message_in}
 use Rattle.account_ledger.specs.NamedFiles.{file_named}
 use Rattle.account_ledger.specs.Opening.{opening_of}
-use Rattle.account_ledger.specs.Serving.{HasNamed}
-use Rattle.account_ledger.specs.Settling.{OnFiles}
+use Rattle.account_ledger.specs.Serving.{HasNamed, Leaves}
+use Rattle.account_ledger.specs.Settling.{OnFiles, book_at}
 use Rattle.account_ledger.proofs.Weighing.{is_mailbox_of}
 use Rattle.account_ledger.proofs.NamedFiles.{row_there, file_has_base}
 use Rattle.account_ledger.proofs.Ordering.{FilesShifted}
 use Rattle.account_ledger.proofs.Replying.{of_weaker}
 use Rattle.account_ledger.proofs.Shifting.{Shifted, Moves}
-use Rattle.account_ledger.proofs.Found.{of_both_told, named_by, removed_shifted, changed_shifted, files_removed}
+use Rattle.account_ledger.proofs.Found.{of_both_told, of_files, free_name, named_by, removed_shifted, changed_shifted, files_removed, files_renamed}
 
 -- after one more removal or move
 abbrev pub one_changed : Counts → Counts
@@ -118,6 +125,10 @@ module _ (setup : Setup) (limits : List LimitNumbers) (books : List Book) (count
 abbrev pub RowRemoved : List ℕ → List ℕ → Told → Told → Type 0
 RowRemoved mailbox name told told' = told'.files ≡ record told.files { rows = removed_row mailbox name told.files.rows }
 
+-- or it has another mailbox and name
+abbrev pub RowRenamed : List ℕ → List ℕ → List ℕ → List ℕ → Told → Told → Type 0
+RowRenamed from name to other told told' = told'.files ≡ record told.files { rows = renamed_row from name to other told.files.rows }
+
 message_of_some : (mailbox : List ℕ) (file : FileRow) (o : Option FileRow) → Some file ≡ o → option_map (message_in mailbox) o ≡ Some (message_in mailbox file)
 message_of_some mailbox file o is = ap (option_map (message_in mailbox)) (sym is)
 
@@ -180,9 +191,82 @@ module _ (then now : Option Told) (faults_then faults : ℕ) (setup : Setup) (ep
         by (Some n) None found changes = absurd changes
         by (Some n) (Some m) found changes = files_removed setup.mailboxes mailbox base file n.files m.files there found changes
 
+    pub name_free : (name : List ℕ) → base_of name ≡ base_of file.name → (bytes_eq mailbox mailbox && bytes_eq file.name name) ≡ false → IfSome now (λ t. has_row mailbox name t.files.rows ≡ false)
+    name_free name same differs =
+        of_files then now faults_then faults setup epoch limits books counts history (λ account. Unit {0}) (λ t. Some file ≡ file_named base (listed mailbox t.files.rows)) (λ t. has_row mailbox name t.files.rows ≡ false)
+        (λ account t holds known is. free_name setup limits books counts (length history) account t.files mailbox base name file holds order.sound.mailboxes.different there is
+        (same ∙ file_has_base mailbox base file t.files.rows (sym is)) (other_name (bytes_eq mailbox mailbox) (bytes_eq file.name name) ((bytes_eq-Decides mailbox mailbox).1 refl) differs))
+        order (of_every (λ account. Unit {0}) (λ account. tt) _) found
+      where
+        other_name : (b c : Bool) → b ≡ true → (b && c) ≡ false → c ≡ false
+        other_name true c e f = f
+        other_name false c e f = absurd (false≢true e)
+
+    pub shifts_renamed : (to name : List ℕ) (message : Message) (mid : Option Told) → is_mailbox_of setup.mailboxes to ≡ true → message_in to (record { name = name; length = file.length }) ≡ message
+        → Changes (RowRenamed mailbox file.name to name) now mid → Changes (OnFiles (FilesShifted setup.mailboxes (Some (message_in mailbox file)) (Some message))) now mid
+    shifts_renamed to name message mid target same changes = by now mid found changes
+      where
+        by : (n m : Option Told) → IfSome n (λ t. Some file ≡ file_named base (listed mailbox t.files.rows)) → Changes (RowRenamed mailbox file.name to name) n m
+            → Changes (OnFiles (FilesShifted setup.mailboxes (Some (message_in mailbox file)) (Some message))) n m
+        by None None found changes = tt
+        by None (Some m) found changes = absurd changes
+        by (Some n) None found changes = absurd changes
+        by (Some n) (Some m) found changes = files_renamed setup.mailboxes mailbox base to name file message n.files m.files there target found same changes
+
   -- there is no such message
   module _ (found : IfSome now (λ t. None ≡ file_named base (listed mailbox t.files.rows))) where
     pub missing : Of (λ account. named_message mailbox base account.messages ≡ None)
     missing =
         of_both_told then now faults_then faults setup epoch limits books counts history (λ account. named_message mailbox base account.messages ≡ None) (λ t. None ≡ file_named base (listed mailbox t.files.rows))
         (λ account t holds is. named_by setup limits books counts (length history) account t.files mailbox base None holds there is) order found
+
+-- there is no such message, and the account stays
+missing_reply : (b : Bool) (o : Option Message) (given : Reply) → o ≡ None → (cond b (if_message o given) NoMailbox ≡ NoMessage) ⊎ (cond b (if_message o given) NoMailbox ≡ NoMailbox)
+missing_reply true o given none = inl (ap (λ x. if_message x given) none)
+missing_reply false o given none = inr refl
+
+pub removal_missing : (roots : List RootSpec) (account : Account) (mailbox base : List ℕ) → named_message mailbox base account.messages ≡ None → Leaves roots (Remove mailbox base) false account
+removal_missing roots account mailbox base none = elim (missing_reply (has_mailbox account mailbox) (named_message mailbox base account.messages) Removed none) [
+  | inl is ↦ ap (removed_after account mailbox base) is
+  | inr is ↦ ap (removed_after account mailbox base) is
+]
+
+pub mark_missing : (roots : List RootSpec) (account : Account) (mailbox base : List ℕ) (flags : Flags) → named_message mailbox base account.messages ≡ None → Leaves roots (Mark mailbox base flags) false account
+mark_missing roots account mailbox base flags none = elim (missing_reply (has_mailbox account mailbox) (named_message mailbox base account.messages) Marked none) [
+  | inl is ↦ ap (marked_after account mailbox base flags) is
+  | inr is ↦ ap (marked_after account mailbox base flags) is
+]
+
+pub missing_replied : (account : Account) (mailbox base : List ℕ) (given : Reply) → true ≡ has_mailbox account mailbox → named_message mailbox base account.messages ≡ None → NoMessage ≡ message_reply account mailbox base given
+missing_replied account mailbox base given there none =
+    sym (ap (λ b. cond b (if_message (named_message mailbox base account.messages) given) NoMailbox) (sym there) ∙ ap (λ o. if_message o given) none)
+
+-- a file with a name of other flags tells the message with these flags
+pub marked_message : (mailbox name : List ℕ) (file : FileRow) (flags : Flags) → ((length : ℕ) → message_of name length ≡ record { base = base_of file.name; octets = octets_of file.name length; flags = flags })
+    → message_in mailbox (record { name = name; length = file.length }) ≡ with_flags flags (message_in mailbox file)
+marked_message mailbox name file flags reads = ap (λ (f : FileMessage). let m : Message = record { mailbox = mailbox; base = f.base; octets = f.octets; flags = f.flags } in m) (reads file.length)
+
+-- a message that stays in its mailbox changes no usage
+pub none_lined : (roots : List RootSpec) (mailbox : List ℕ) (octets : ℕ) (limits : List LimitNumbers) (books : List Book) → BooksLined (length roots) (change_at roots (Some mailbox) (Some mailbox)) octets limits books books
+none_lined roots mailbox octets limits books = record {
+  count = refl;
+  done = λ root inside. by (governs_at roots root mailbox) (book_at books root) _;
+  left = λ root far. refl;
+}
+  where
+    by : (b : Bool) (book : Book) (own : LimitNumbers) → BookLined (change_by b b) octets own book book
+    by true book own = refl
+    by false book own = refl
+
+pub no_lines : (roots : List RootSpec) (mailbox : List ℕ) (octets : ℕ) (limits : List LimitNumbers) (books : List Book) (told : Option Told)
+    → Changes (OnFiles (LedgersLined (length roots) (change_at roots (Some mailbox) (Some mailbox)) octets limits books books)) told told
+no_lines roots mailbox octets limits books told =
+    changes_same {X = Told} _ (λ (x : Told). record {
+      rows = refl;
+      done = λ root inside. by (governs_at roots root mailbox) (ledger_at x.files root) _ _ _;
+      left = λ root far. refl;
+    }) told
+  where
+    by : (b : Bool) (ledger : Option (List ℕ)) (own : LimitNumbers) (book : Book) (standing : Standing) → LedgerLined (change_by b b) octets own book standing ledger ledger
+    by true ledger own book standing = refl
+    by false ledger own book standing = refl

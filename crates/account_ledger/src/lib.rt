@@ -8,6 +8,7 @@ mod deliver;
 mod fault;
 mod limits;
 mod lines;
+mod marks;
 mod named;
 mod open;
 mod remove;

@@ -220,6 +220,11 @@ impl<K: Keeper> AccountState<K> {
             } => self.deliver(alloc, caller, mailbox, octets, flags, bytes),
             Call::SetLimits { root, limits } => self.set_limits(alloc, caller, root, limits),
             Call::Remove { mailbox, base } => self.remove(alloc, caller, mailbox, base),
+            Call::Mark {
+                mailbox,
+                base,
+                flags,
+            } => self.mark(alloc, caller, mailbox, base, flags),
             question => self.ask(alloc, caller, question, bytes),
         }
     }
