@@ -137,17 +137,17 @@ filter_map_where : {X Y : Type 0} (f g : X → Option Y) (p : X → Bool) → ((
 filter_map_where f g p same [] = refl
 filter_map_where f g p same (x ∷ xs) = filter_map_where_step f g x (filter p xs) (p x) (same x) (filter_map_where f g p same xs)
 
--- the first root over is the same where the totals of the governing roots are
-pub first_over_where : (roots : List RootSpec) (mailbox : List ℕ) (limits : List LimitNumbers) (a b : List Totals) (octets : ℕ)
-    → ((root : ℕ) → governs_at roots root mailbox ≡ true → totals_at a root ≡ totals_at b root)
-    → first_over limits a (governing roots mailbox) octets ≡ first_over limits b (governing roots mailbox) octets
-first_over_where roots mailbox limits a b octets same =
+-- the first root over among some is the same where their totals are
+pub first_over_where : (among : ℕ → Bool) (count : ℕ) (limits : List LimitNumbers) (a b : List Totals) (octets : ℕ)
+    → ((root : ℕ) → among root ≡ true → totals_at a root ≡ totals_at b root)
+    → first_over limits a (filter among (range_with_len 0 count)) octets ≡ first_over limits b (filter among (range_with_len 0 count)) octets
+first_over_where among count limits a b octets same =
     ap (λ (ps : List (ℕ × Resource)). slice_get ps 0) (filter_map_where
     (λ root. option_map (λ resource. (root, resource)) (over (limits_at limits root) (totals_at a root) octets))
     (λ root. option_map (λ resource. (root, resource)) (over (limits_at limits root) (totals_at b root) octets))
-    (λ root. governs_at roots root mailbox)
-    (λ root governed. ap (λ t. option_map (λ resource. (root, resource)) (over (limits_at limits root) t octets)) (same root governed))
-    (range_with_len 0 (length roots)))
+    among
+    (λ root is. ap (λ t. option_map (λ resource. (root, resource)) (over (limits_at limits root) t octets)) (same root is))
+    (range_with_len 0 count))
 
 -- the rows of the governing roots, by their numbers
 module _ (account : Account) (mailbox : List ℕ) (all : List RootSpec) (all_limits : List LimitNumbers) where

@@ -239,3 +239,74 @@ settles_still may s m stay rows = record {
     every : (o : Option Account) (t n : Option Told) → Changes (OnFiles (λ files files'. files'.rows ≡ files.rows)) t n → IfSome o (λ account. Changes (OnFiles (AreFolded s.setup.roots account s.standings m.standings)) t n)
     every None t n same = tt
     every (Some account) t n same = folded_none account t n same
+
+-- a call that begins by looking at files does what it does from there
+stay_then : (s m n : State) → LedgersStay s m → LedgersStay m n → LedgersStay s n
+stay_then s m n a b = record {
+  standings = b.standings ∙ a.standings;
+  ledgers = changes_then {X = Told} (OnFiles (λ files files'. (root : ℕ) → ledger_at files' root ≡ ledger_at files root)) (OnFiles (λ files files'. (root : ℕ) → ledger_at files' root ≡ ledger_at files root))
+      (OnFiles (λ files files'. (root : ℕ) → ledger_at files' root ≡ ledger_at files root)) (λ (x y z : Told) e f root. f root ∙ e root) s.told m.told n.told a.ledgers b.ledgers;
+  appends = b.appends ∙ a.appends;
+}
+
+module _ (s n : State) (opened : Opened s n) (same : n.history ≡ s.history) (calm : n.faults ≡ s.faults) (stay : LedgersStay s n) (rows : Changes (OnFiles (λ files files'. files'.rows ≡ files.rows)) s.told n.told) where
+  settles_after : (may : ℕ → Bool) (m : State) → SettlesSome may n m → SettlesSome may s m
+  settles_after may m settles = record {
+    files = files_after s.told n.told m.told rows stay.ledgers settles.files;
+    texts = account_moved (λ roots account. Changes (OnFiles (AreFolded roots account s.standings m.standings)) s.told m.told) s n opened same (texts_after (account_of n) settles.texts);
+    count = settles.count ∙ ap length stay.standings;
+    each = λ root. subst (λ ss. MarksOne (may root) (standing_at ss root) (standing_at m.standings root)) stay.standings (settles.each root);
+    appends = settles.appends ∙ stay.appends;
+  }
+    where
+      one_after : (t u : Files) (root : ℕ) → ledger_at u root ≡ ledger_at t root → (v : Files) → (ledger_at v root ≡ ledger_at u root) ⊎ IsSettledNow may n.standings m.standings root → (ledger_at v root ≡ ledger_at t root) ⊎ IsSettledNow may s.standings m.standings root
+      one_after t u root e v (inl f) = inl (f ∙ e)
+      one_after t u root e v (inr (is, doubt, now)) = inr (is, ap (λ ss. standing_at ss root) (sym stay.standings) ∙ doubt, now)
+
+      files_after : (t u v : Option Told) → Changes (OnFiles (λ files files'. files'.rows ≡ files.rows)) t u → Changes (OnFiles (λ files files'. (root : ℕ) → ledger_at files' root ≡ ledger_at files root)) t u
+          → Changes (OnFiles (SettlesLedgers may n.standings m.standings)) u v → Changes (OnFiles (SettlesLedgers may s.standings m.standings)) t v
+      files_after None None None a b c = tt
+      files_after None None (Some v) a b c = absurd c
+      files_after None (Some u) v a b c = absurd a
+      files_after (Some t) None v a b c = absurd a
+      files_after (Some t) (Some u) None a b c = absurd c
+      files_after (Some t) (Some u) (Some v) a b c = record { rows = c.rows ∙ a; each = λ root. one_after t.files u.files root (b root) v.files (c.each root) }
+
+      folded_after : (account : Account) → Changes (OnFiles (AreFolded n.setup.roots account n.standings m.standings)) n.told m.told → Changes (OnFiles (AreFolded n.setup.roots account s.standings m.standings)) s.told m.told
+      folded_after account =
+          changes_then {X = Told} (OnFiles (λ files files'. files'.rows ≡ files.rows)) (OnFiles (AreFolded n.setup.roots account n.standings m.standings)) (OnFiles (AreFolded n.setup.roots account s.standings m.standings))
+          (λ (x y z : Told) e f root doubt settled. f root (ap (λ ss. standing_at ss root) stay.standings ∙ doubt) settled) s.told n.told m.told rows
+
+      texts_after : (o : Option Account) → IfSome o (λ account. Changes (OnFiles (AreFolded n.setup.roots account n.standings m.standings)) n.told m.told)
+          → IfSome o (λ account. Changes (OnFiles (AreFolded n.setup.roots account s.standings m.standings)) s.told m.told)
+      texts_after None all = tt
+      texts_after (Some account) all = folded_after account all
+
+  settled_after : (b : Bool) (may : ℕ → Bool) (m : State) → SettledFor b may n m → SettledFor b may s m
+  settled_after true may m (still, faults) = (stay_then s n m stay still, faults ∙ calm)
+  settled_after false may m all = all
+
+  settled_then : (result : Result Reply StepError) (may : ℕ → Bool) (m : State) → IfOk result (λ given. SettledFor (misses given) may n m) → IfOk result (λ given. SettledFor (misses given) may s m)
+  settled_then (Ok given) may m settled = settled_after (misses given) may m settled
+  settled_then (Err e) may m settled = tt
+
+  pub serves_after : (caller : ℕ) (call : Call) (bytes : List ℕ) (result : Result Reply StepError) (s' : State) → Serves caller call bytes result n s' → Serves caller call bytes result s s'
+  serves_after caller call bytes result s' serves =
+      let l = serves.ledgers in
+      record {
+        opened = opened_then s n s' opened serves.opened;
+        enters = enters_moved caller call result s.history n.history s'.history same serves.enters;
+        reply = reply_moved result call s n opened same serves.reply;
+        ledgers = record {
+          middle = l.middle;
+          opened = opened_then s n l.middle opened l.opened;
+          settles = subst (λ (may : ℕ → Bool). SettlesSome may s l.middle) (ap (λ roots. needs roots call) (ap (λ (u : Setup). u.roots) opened.setup)) (settles_after (needs n.setup.roots call) l.middle l.settles);
+          settled = subst (λ (may : ℕ → Bool). IfOk result (λ given. SettledFor (misses given) may s l.middle)) (ap (λ roots. needs roots call) (ap (λ (u : Setup). u.roots) opened.setup)) (settled_then result (needs n.setup.roots call) l.middle l.settled);
+          later = omega (arith, l.later, calm);
+          calm = λ not. l.calm not ∙ calm;
+          writes = l.writes;
+        };
+        rows = changes_then {X = Told} (OnFiles (λ files files'. files'.rows ≡ files.rows)) (OnFiles (λ files files'. ServesRows n.epoch call bytes result files.rows files'.rows)) (OnFiles (λ files files'. ServesRows s.epoch call bytes result files.rows files'.rows))
+            (λ (x y z : Told) e f. subst (λ epoch. ServesRows epoch call bytes result x.files.rows z.files.rows) opened.epoch (subst (λ rs. ServesRows n.epoch call bytes result rs z.files.rows) e f)) s.told n.told s'.told rows serves.rows;
+        cause = λ store. subst (λ f. Rose f s'.faults) calm (serves.cause store);
+      }

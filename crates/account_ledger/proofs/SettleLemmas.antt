@@ -75,26 +75,26 @@ governed_inside roots mailbox root governed = elim (cases_lt root (length roots)
   | inr past ↦ absurd (false≢true (sym (ap (λ o. option_map_or (λ spec. governs spec mailbox) o false) (slice_get_past roots root past)) ∙ governed))
 ]
 
-pub only_governing : (roots : List RootSpec) (mailbox : List ℕ) (root : ℕ) → governs_at roots root mailbox ≡ true → (r : ℕ) → nat_eq root r ≡ true → governs_at roots r mailbox ≡ true
-only_governing roots mailbox root governed r same = subst (λ k. governs_at roots k mailbox ≡ true) (eqb-true root r same) governed
+pub only_one : (may : ℕ → Bool) (root : ℕ) → may root ≡ true → (r : ℕ) → nat_eq root r ≡ true → may r ≡ true
+only_one may root is r same = subst (λ k. may k ≡ true) (eqb-true root r same) is
 
 pub settled_stays : (may : Bool) (standing standing' : Standing) → MarksOne may standing standing' → standing ≡ Settled → standing' ≡ Settled
 settled_stays may standing standing' (inl same) settled = same ∙ settled
 settled_stays may standing standing' (inr (is, doubt, now)) settled = now
 
-module _ (roots : List RootSpec) (mailbox : List ℕ) (n : ℕ) where
-  -- each root below n that governs the mailbox is settled
+module _ (may : ℕ → Bool) (n : ℕ) where
+  -- each root below n that may be is settled
   abbrev pub SettledBelow : ℕ → List Book → Type 0
-  SettledBelow m books = (root : ℕ) → root < m → governs_at roots root mailbox ≡ true → (book_at books root).standing ≡ Settled
+  SettledBelow m books = (root : ℕ) → root < m → may root ≡ true → (book_at books root).standing ≡ Settled
 
   pub settled_more : (a b : List Book) → SettledBelow n a → Marks (nat_eq n) a b → (book_at b n).standing ≡ Settled → SettledBelow (n + 1) b
-  settled_more a b before marks here root below governed = elim (cases_lt root n) [
-    | inl earlier ↦ settled_stays _ _ _ (marks.each root) (before root earlier governed)
+  settled_more a b before marks here root below is = elim (cases_lt root n) [
+    | inl earlier ↦ settled_stays _ _ _ (marks.each root) (before root earlier is)
     | inr not_earlier ↦ let e : n ≡ root = omega arith in subst (λ k. (book_at b k).standing ≡ Settled) e here
   ]
 
-  pub settled_past : (a : List Book) → SettledBelow n a → governs_at roots n mailbox ≡ false → SettledBelow (n + 1) a
-  settled_past a before ungoverned root below governed = elim (cases_lt root n) [
-    | inl earlier ↦ before root earlier governed
-    | inr not_earlier ↦ let e : n ≡ root = omega arith in absurd (false≢true (sym ungoverned ∙ ap (λ k. governs_at roots k mailbox) e ∙ governed))
+  pub settled_past : (a : List Book) → SettledBelow n a → may n ≡ false → SettledBelow (n + 1) a
+  settled_past a before is_not root below is = elim (cases_lt root n) [
+    | inl earlier ↦ before root earlier is
+    | inr not_earlier ↦ let e : n ≡ root = omega arith in absurd (false≢true (sym is_not ∙ ap may e ∙ is))
   ]

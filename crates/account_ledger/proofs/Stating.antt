@@ -1,5 +1,5 @@
 -- From what is kept to what clauses see.
-use Rattle.std.proofs.Common.{◌≡◌, ◌⊎◌, ℕ, ◌<◌, ◌≤◌, Bool, true, List, length, get_or, Option, Some, None, refl, sym, ap, ◌∙◌, inl, inr, arith}
+use Rattle.std.proofs.Common.{◌≡◌, ◌⊎◌, ℕ, ◌<◌, ◌≤◌, Bool, true, not, List, length, get_or, Option, Some, None, refl, sym, ap, ◌∙◌, inl, inr, arith}
 use Rattle.std.specs.Prelude.{IfSome}
 use Rattle.std.specs.Option.{option_map}
 use Rattle.std.proofs.Math.ListN.{get_or-map}
@@ -25,11 +25,11 @@ use Rattle.account_ledger.specs.Order.{Holds, InOrder}
 use Rattle.account_ledger.specs.Ledgers.{folded}
 use Rattle.account_ledger.specs.Serving.{SettlesLedgers, IsSettledNow, AreFolded}
 use Rattle.account_ledger.proofs.UsageLemmas.{scan_is_usage}
-use Rattle.std.proofs.lemmas.Bool.{cases_lt}
+use Rattle.std.proofs.lemmas.Bool.{cases_lt, and_parts}
 use Rattle.std.specs.List.{range_with_len}
-use Rattle.quota_roots.specs.Governing.{governs_at, governing}
+use Rattle.quota_roots.specs.Governing.{governs_at, governing, gains_at, gaining}
 use Rattle.admission.specs.Fitting.{first_over, totals_at}
-use Rattle.account_core.specs.Machine.{governing_rows, usages, over_in}
+use Rattle.account_core.specs.Machine.{governing_rows, usages, over_in, over_of}
 use Rattle.account_core.proofs.Admitting.{totals_at-usages}
 use Rattle.account_ledger.specs.Rows.{kept_row, kept_rows, totals_of}
 use Rattle.account_ledger.proofs.Changing.{changes_weaken}
@@ -129,7 +129,7 @@ module _ (then now : Option Told) (faults_then faults : ℕ) (setup : Setup) (ep
   over_is octets =
       of_account then now faults_then faults setup epoch limits books counts history (λ account. first_over limits (totals_of books) (governing setup.roots mailbox) octets ≡ over_in setup.roots account mailbox octets)
       (λ account files holds.
-      first_over_where setup.roots mailbox limits (totals_of books) (usages setup.roots account) octets (λ root governed. totals_at_of books root ∙ totals_here account files holds root governed)
+      first_over_where (λ root. governs_at setup.roots root mailbox) (length setup.roots) limits (totals_of books) (usages setup.roots account) octets (λ root governed. totals_at_of books root ∙ totals_here account files holds root governed)
       ∙ ap (λ ls. first_over ls (usages setup.roots account) (governing setup.roots mailbox) octets) (sym holds.limits_are)) order
 
 pub limits_each : (then now : Option Told) (faults_then faults : ℕ) (setup : Setup) (epoch : ℕ) (limits : List LimitNumbers) (books : List Book) (counts : Counts) (history : List Entry)
@@ -175,3 +175,18 @@ texts_settled then now now' faults_then faults setup epoch limits books books' c
     by (Some t) (Some n) (Some n') held s =
         each_folded may setup limits books books' counts (length history) (replay setup.roots (opening_account setup epoch t.files) history) n.files n'.files held
         (omega (arith, order.within, order.sound.most_room)) order.limits_each (marks.count ∙ order.books_each) s
+
+-- the first root over among the roots that a message comes under when it is moved
+pub over_gained : (then now : Option Told) (faults_then faults : ℕ) (setup : Setup) (epoch : ℕ) (limits : List LimitNumbers) (books : List Book) (counts : Counts) (history : List Entry) (from to : List ℕ)
+    → InOrder then now faults_then faults setup epoch limits books counts history
+    → ((root : ℕ) → gains_at setup.roots root from to ≡ true → standing_at (standings_of books) root ≡ Settled) → (octets : ℕ)
+    → IfSome (option_map (λ opening. replay setup.roots opening history) (opening_of setup epoch then))
+    (λ account. first_over limits (totals_of books) (gaining setup.roots from to) octets ≡ over_of setup.roots account (gaining setup.roots from to) octets)
+over_gained then now faults_then faults setup epoch limits books counts history from to order settled octets =
+    of_account then now faults_then faults setup epoch limits books counts history (λ account. first_over limits (totals_of books) (gaining setup.roots from to) octets ≡ over_of setup.roots account (gaining setup.roots from to) octets)
+    (λ account files holds.
+    first_over_where (λ root. gains_at setup.roots root from to) (length setup.roots) limits (totals_of books) (usages setup.roots account) octets
+    (λ root gained.
+    let inside = governed_inside setup.roots to root (and_parts (governs_at setup.roots root to) (not (governs_at setup.roots root from)) gained).0 in
+    get_or-map (λ (b : Book). b.totals) books root no_book ∙ (holds.kept root inside (sym (standing_of books root) ∙ settled root gained)).totals)
+    ∙ ap (λ ls. first_over ls (usages setup.roots account) (gaining setup.roots from to) octets) (sym holds.limits_are)) order
