@@ -18,6 +18,7 @@ pub mod Ordering
 pub mod Delivering
 pub mod Found
 pub mod Removing
+pub mod Moving
 pub mod Lined
 pub mod Served
 pub mod OpenLemmas

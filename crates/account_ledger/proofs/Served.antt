@@ -93,6 +93,14 @@ module _ (caller : ℕ) (call : Call) (bytes : List ℕ) where
       (rw is (opened_noted m m _ (opened_same m))) (quiet m s' (rw is (stay_noted m m _ (stay_same m), refl))) (rw is (changes_same _ (λ x. rows s.epoch x.files.rows) m.told))
       (rw (is, same) refl) reply (λ not. absurd (cc))
 
+  pub noted_on : (given : Reply) (s s' : State) → ((n n' : State) → StayCalm n n' → WritesFor call given n n') → Changes (OnFiles (λ files files'. RowsFor s.epoch call bytes given files.rows files'.rows)) s.told s.told
+      → SettledFor (misses given) (needs s.setup.roots call) s s → OfAccount s (λ account. given ≡ reply_of s.setup.roots account call) → s' ≡ record s { history = s.history ++ entry_of caller call false ∷ [] }
+      → Serves caller call bytes (Ok given) s s'
+  noted_on given s s' quiet rows settled reply is =
+      serves_by (Ok given) s s s' (settles_same (needs s.setup.roots call) s) (opened_same s) (omega arith) (λ not. refl) settled
+      (rw is (opened_noted s s _ (opened_same s))) (quiet s s' (rw is (stay_noted s s _ (stay_same s), refl))) (rw is rows)
+      (rw is refl) reply (λ not. absurd (cc))
+
   -- the store failed
   pub faulted : (s m n s' : State) → SettlesSome (needs s.setup.roots call) s m → Opened s m → s.faults ≤ m.faults
       → Opened m n → n.history ≡ s.history → LedgersStay m n → Changes (OnFiles (λ files files'. files'.rows ≡ files.rows)) m.told n.told → Rose s.faults n.faults

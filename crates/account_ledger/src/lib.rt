@@ -9,6 +9,7 @@ mod fault;
 mod limits;
 mod lines;
 mod marks;
+mod moves;
 mod named;
 mod open;
 mod remove;

@@ -2,7 +2,7 @@
 ghost use Rattle.std.specs.Prelude.{◌≡◌, ◌<◌, ℕ, true, length, nat_eq, OnOk, IsErrOf, All};
 ghost use Rattle.keeper.specs.Causes.{HasCause};
 ghost use Rattle.keeper.specs.Calls.{Changes};
-ghost use Rattle.quota_roots.specs.Governing.{governs_at};
+ghost use Rattle.quota_roots.specs.Governing.{gains_at, governs_at};
 ghost use Rattle.account_ledger.specs.declared.book.Standing.TheVariants.{Settled};
 ghost use Rattle.account_ledger.specs.Scans.{AreSmall};
 ghost use Rattle.account_ledger.specs.Settling.{OnFiles, Settling, Marks, book_at};
@@ -11,7 +11,7 @@ use crate::book::{Book, Standing};
 use crate::scan::scan_root;
 use keeper::{KeepError, Keeper};
 use maildirsize::{Text, print_folded};
-use quota_roots::Setup;
+use quota_roots::{Roots, Setup};
 use quota_units::Limits;
 use std::alloc::Global;
 
@@ -86,4 +86,44 @@ pub(crate) fn settle_governing<K: Keeper>(
         }
     }
     Ok(())
+}
+
+/// Settles each root in doubt that governs the mailbox `to` and not the mailbox `from`.
+///
+/// # Errors
+///
+/// `Failed` where the store failed, and `NoMemory`. Some of the roots may be settled then.
+pub(crate) fn settle_gaining<K: Keeper>(
+    alloc: Global,
+    keeper: &mut K,
+    setup: &Setup,
+    limits: &[Limits],
+    books: &mut Vec<Book>,
+    from: &[u8],
+    to: &[u8],
+) -> Result<(), KeepError>
+    requires limits { length limits.now ≡ length setup.now.roots }
+    requires books { length books.old.items ≡ length setup.now.roots }
+    requires small { All (λ book. AreSmall book.totals) books.old.items }
+    ensures files { Changes (OnFiles (Settling (λ root. gains_at setup.now.roots root from.now to.now) setup.now.roots limits.now setup.now.mailboxes books.old.items books.new.items)) (K.told keeper.old) (K.told keeper.new) }
+    ensures marks { Marks (λ root. gains_at setup.now.roots root from.now to.now) books.old.items books.new.items }
+    ensures small { All (λ book. AreSmall book.totals) books.new.items }
+    ensures settled { OnOk result ((root : ℕ) → gains_at setup.now.roots root from.now to.now ≡ true → (book_at books.new.items root).standing ≡ Settled) }
+    ensures cause { HasCause (IsErrOf result KeepError.Failed) (K.faults keeper.old) (K.faults keeper.new) }
+    ensures appends { K.append_faults keeper.new ≡ K.append_faults keeper.old }
+{
+    for root in 0..setup.roots.count() {
+        if gains(&setup.roots, root, from, to) {
+            settle(alloc, keeper, setup, limits, books, root)?;
+        }
+    }
+    Ok(())
+}
+
+/// Whether a message that moves from one mailbox to another comes under the root.
+fn gains(roots: &Roots, root: u32, from: &[u8], to: &[u8]) -> bool
+    requires { root < length roots.now }
+    ensures { result ≡ gains_at roots.now root from.now to.now }
+{
+    roots.governs(root, to) && !roots.governs(root, from)
 }

@@ -225,6 +225,7 @@ impl<K: Keeper> AccountState<K> {
                 base,
                 flags,
             } => self.mark(alloc, caller, mailbox, base, flags),
+            Call::Move { from, base, to } => self.move_message(alloc, caller, from, base, to),
             question => self.ask(alloc, caller, question, bytes),
         }
     }

@@ -1,0 +1,268 @@
+// A message moves to another mailbox: its file moves, roots that it leaves or comes under get its line, and the call is entered.
+ghost use Rattle.std.specs.Prelude.{◌≡◌, ◌≢◌, ◌<◌, [], ℕ, true, false, Some, None, length, bytes_eq, IfOk, IfSome, OnOk};
+ghost use Rattle.std.specs.List.{list_any};
+ghost use Rattle.quota_roots.specs.Governing.{gaining, gains_at};
+ghost use Rattle.keeper.specs.Calls.{Changes};
+ghost use Rattle.keeper.specs.Causes.{HasCause, Rose};
+ghost use Rattle.keeper.specs.Files.{listed};
+ghost use Rattle.account_core.specs.Machine.{over_of, reply_of};
+ghost use Rattle.account_core.specs.Legality.{MayMove};
+ghost use Rattle.account_ledger.specs.declared.book.Standing.TheVariants.{Settled};
+ghost use Rattle.account_ledger.specs.Messages.{message_in};
+ghost use Rattle.account_ledger.specs.NamedFiles.{IsThere, file_named};
+ghost use Rattle.account_ledger.specs.Rows.{IsVerdict};
+ghost use Rattle.account_ledger.specs.Serving.{Enters, OfAccount, Opened, Serves, ServesRows, SettlesSome, WritesBy, misses};
+ghost use Rattle.account_ledger.specs.Settling.{OnFiles};
+ghost use Rattle.account_ledger.specs.States.{standing_at};
+
+use crate::AccountState;
+use crate::fault::step_error;
+use crate::lines::post_all;
+use crate::named::rename_file;
+use crate::rows::{are_limits, totals_of};
+use crate::scan::{MOST, size_of_file};
+use crate::settle::settle_gaining;
+use account_core::{Call, Entry, Reply, StepError};
+use admission::{Verdict, admit};
+use keeper::{FileRow, Keeper};
+use quota_units::Name;
+use std::alloc::{AllocError, Global};
+
+impl<K: Keeper> AccountState<K> {
+    /// Settles each root in doubt that governs the mailbox `to` and not the mailbox `from`. It is no entry of the history.
+    fn settle_gained(&mut self, alloc: Global, from: &[u8], to: &[u8]) -> Result<(), StepError>
+        ensures opened { Opened self.old self.new }
+        ensures history { self.new.history ≡ self.old.history }
+        ensures reserved { self.new.reserved ≡ self.old.reserved }
+        ensures settled { OnOk result ((root : ℕ) → gains_at self.old.setup.roots root from.now to.now ≡ true → standing_at self.new.standings root ≡ Settled) }
+        ensures settles { SettlesSome (λ root. gains_at self.old.setup.roots root from.now to.now) self.old self.new }
+        ensures cause { HasCause (result ≡ Err StepError.Store) self.old.faults self.new.faults }
+        ensures never_full { (limit : ℕ) → result ≢ Err (StepError.JournalFull limit) }
+    {
+        let settled = settle_gaining(
+            alloc,
+            &mut self.keeper,
+            &self.setup,
+            &self.limits,
+            &mut self.books,
+            from,
+            to,
+        );
+        if let Err(fault) = settled {
+            return Err(step_error(fault));
+        }
+        Ok(())
+    }
+
+    /// Whether a message fits the roots that govern the mailbox `to` and not the mailbox `from`, which are settled.
+    fn verdict_gained(
+        &self,
+        alloc: Global,
+        from: &[u8],
+        to: &[u8],
+        octets: u64,
+    ) -> Result<Verdict, AllocError>
+        requires { (root : ℕ) → gains_at self.now.setup.roots root from.now to.now ≡ true → standing_at self.now.standings root ≡ Settled }
+        ensures { IfOk result (λ verdict. OfAccount self.now (λ account. IsVerdict (over_of self.now.setup.roots account (gaining self.now.setup.roots from.now to.now) octets) verdict)) }
+    {
+        let totals = totals_of(alloc, &self.books)?;
+        are_limits(&self.limits);
+        // No limit is so large that more octets than these could be within it.
+        let octets = octets.min(MOST);
+        Ok(admit(
+            &self.limits,
+            &totals,
+            self.setup.roots.gained(from, to),
+            octets,
+        ))
+    }
+
+    /// Whether a message fits the roots that it comes under when it is moved; those in doubt are settled first.
+    fn fits_gained(
+        &mut self,
+        alloc: Global,
+        from: &Name,
+        to: &Name,
+        octets: u64,
+    ) -> Result<Verdict, StepError>
+        ensures opened { Opened self.old self.new }
+        ensures history { self.new.history ≡ self.old.history }
+        ensures reserved { self.new.reserved ≡ self.old.reserved }
+        ensures settled { OnOk result ((root : ℕ) → gains_at self.old.setup.roots root from.now to.now ≡ true → standing_at self.new.standings root ≡ Settled) }
+        ensures settles { SettlesSome (λ root. gains_at self.old.setup.roots root from.now to.now) self.old self.new }
+        ensures verdict { IfOk result (λ verdict. OfAccount self.new (λ account. IsVerdict (over_of self.new.setup.roots account (gaining self.new.setup.roots from.now to.now) octets) verdict)) }
+        ensures cause { HasCause (result ≡ Err StepError.Store) self.old.faults self.new.faults }
+        ensures never_full { (limit : ℕ) → result ≢ Err (StepError.JournalFull limit) }
+    {
+        self.settle_gained(alloc, from.as_slice(), to.as_slice())?;
+        Ok(self.verdict_gained(alloc, from.as_slice(), to.as_slice(), octets)?)
+    }
+
+    /// Serves a move of this caller: the message of this base goes from one mailbox to another, and keeps its file's name.
+    ///
+    /// # Errors
+    ///
+    /// `Store` where the store failed before the file was moved; the entry has fault then. `NoMemory`: there is no entry.
+    #[tactic(auto, using(crate::proofs::Entering::fault_leaves, crate::proofs::Entering::excused_more))]
+    pub(crate) fn move_message(
+        &mut self,
+        alloc: Global,
+        caller: u32,
+        from: Name,
+        base: Name,
+        to: Name,
+    ) -> Result<Reply, StepError>
+        requires room { length self.old.history < self.old.setup.journal }
+        requires held { length self.old.history < self.old.reserved }
+        ensures serves { Serves caller (Call.Move from base to) [] result self.old self.new }
+        ensures never_full { (limit : ℕ) → result ≢ Err (StepError.JournalFull limit) }
+    {
+        self.is_in_order();
+        if !self.has_mailbox(from.as_slice()) {
+            self.note(caller, Call::Move { from, base, to }, false);
+            return Ok(Reply::NoMailbox);
+        }
+        if !self.has_mailbox(to.as_slice()) {
+            self.note(caller, Call::Move { from, base, to }, false);
+            return Ok(Reply::NoMailbox);
+        }
+        match self.find_file(alloc, &from, &base) {
+            Ok(Some(file)) => self.place(alloc, caller, from, base, to, file),
+            Ok(None) => {
+                self.note(caller, Call::Move { from, base, to }, false);
+                Ok(Reply::NoMessage)
+            }
+            Err(fault) => Err(self.fail(caller, Call::Move { from, base, to }, fault)),
+        }
+    }
+
+    /// Moves a message whose file was found, where the target has no message of its base.
+    #[tactic(auto, using(crate::proofs::Entering::fault_leaves, crate::proofs::Entering::excused_more))]
+    fn place(
+        &mut self,
+        alloc: Global,
+        caller: u32,
+        from: Name,
+        base: Name,
+        to: Name,
+        file: FileRow,
+    ) -> Result<Reply, StepError>
+        requires room { length self.old.history < self.old.setup.journal }
+        requires held { length self.old.history < self.old.reserved }
+        requires source { list_any (λ name. bytes_eq name from) self.old.setup.mailboxes ≡ true }
+        requires target { list_any (λ name. bytes_eq name to) self.old.setup.mailboxes ≡ true }
+        requires found { IfSome self.old.told (λ t. Some file ≡ file_named base (listed from t.files.rows)) }
+        requires there { OfAccount self.old (IsThere from base to (message_in from file)) }
+        ensures serves { Serves caller (Call.Move from base to) [] result self.old self.new }
+        ensures never_full { (limit : ℕ) → result ≢ Err (StepError.JournalFull limit) }
+    {
+        self.is_in_order();
+        if from.as_slice() == to.as_slice() {
+            self.note(caller, Call::Move { from, base, to }, false);
+            return Ok(Reply::Moved);
+        }
+        match self.find_file(alloc, &to, &base) {
+            Ok(None) => self.fit_in(alloc, caller, from, base, to, file),
+            Ok(Some(_)) => {
+                self.note(caller, Call::Move { from, base, to }, false);
+                Ok(Reply::NameTaken)
+            }
+            Err(fault) => Err(self.fail(caller, Call::Move { from, base, to }, fault)),
+        }
+    }
+
+    /// Moves a message to a mailbox that has none of its base, where it fits the roots that it comes under.
+    #[tactic(auto, using(crate::proofs::Entering::fault_leaves, crate::proofs::Entering::excused_more))]
+    fn fit_in(
+        &mut self,
+        alloc: Global,
+        caller: u32,
+        from: Name,
+        base: Name,
+        to: Name,
+        file: FileRow,
+    ) -> Result<Reply, StepError>
+        requires room { length self.old.history < self.old.setup.journal }
+        requires held { length self.old.history < self.old.reserved }
+        requires source { list_any (λ name. bytes_eq name from) self.old.setup.mailboxes ≡ true }
+        requires target { list_any (λ name. bytes_eq name to) self.old.setup.mailboxes ≡ true }
+        requires found { IfSome self.old.told (λ t. Some file ≡ file_named base (listed from t.files.rows)) }
+        requires may { OfAccount self.old (λ account. MayMove account from base to (message_in from file)) }
+        requires apart { bytes_eq from to ≡ false }
+        ensures serves { Serves caller (Call.Move from base to) [] result self.old self.new }
+        ensures never_full { (limit : ℕ) → result ≢ Err (StepError.JournalFull limit) }
+    {
+        self.is_in_order();
+        let octets = size_of_file(&file);
+        match self.fits_gained(alloc, &from, &to, octets) {
+            Ok(Verdict::Fits) => self.carry(alloc, caller, from, base, to, file),
+            Ok(Verdict::Over { root, resource }) => {
+                self.note(caller, Call::Move { from, base, to }, false);
+                Ok(Reply::Over { root, resource })
+            }
+            Err(fault) => Err(self.fail(caller, Call::Move { from, base, to }, fault)),
+        }
+    }
+
+    /// Moves the file of a message that fits, writes the lines, and enters the call.
+    #[tactic(auto, using(crate::proofs::Entering::fault_leaves, crate::proofs::Entering::excused_more))]
+    fn carry(
+        &mut self,
+        alloc: Global,
+        caller: u32,
+        from: Name,
+        base: Name,
+        to: Name,
+        file: FileRow,
+    ) -> Result<Reply, StepError>
+        requires room { length self.old.history < self.old.setup.journal }
+        requires held { length self.old.history < self.old.reserved }
+        requires source { list_any (λ name. bytes_eq name from) self.old.setup.mailboxes ≡ true }
+        requires target { list_any (λ name. bytes_eq name to) self.old.setup.mailboxes ≡ true }
+        requires found { IfSome self.old.told (λ t. Some file ≡ file_named base (listed from t.files.rows)) }
+        requires may { OfAccount self.old (λ account. MayMove account from base to (message_in from file)) }
+        requires fits { OfAccount self.old (λ account. over_of self.old.setup.roots account (gaining self.old.setup.roots from to) (message_in from file).octets ≡ None) }
+        requires apart { bytes_eq from to ≡ false }
+        ensures opened { Opened self.old self.new }
+        ensures enters { Enters caller (Call.Move from base to) result self.old.history self.new.history }
+        ensures reply { IfOk result (λ given. OfAccount self.old (λ account. given ≡ reply_of self.old.setup.roots account (Call.Move from base to))) }
+        ensures writes { WritesBy (Call.Move from base to) result self.old self.new }
+        ensures rows { Changes (OnFiles (λ files files'. ServesRows self.old.epoch (Call.Move from base to) [] result files.rows files'.rows)) self.old.told self.new.told }
+        ensures there { IfOk result (λ given. misses given ≡ false) }
+        ensures cause { result ≡ Err StepError.Store → Rose self.old.faults self.new.faults }
+        ensures never_full { (limit : ℕ) → result ≢ Err (StepError.JournalFull limit) }
+    {
+        let octets = size_of_file(&file);
+        let name = file.name.as_slice();
+        let moved = rename_file(
+            &mut self.keeper,
+            alloc,
+            from.as_slice(),
+            name,
+            to.as_slice(),
+            name,
+        );
+        if let Err(fault) = moved {
+            let call = Call::Move { from, base, to };
+            return Err(self.fail(caller, call, step_error(fault)));
+        }
+        // The account has at most four roots.
+        let _count = self.setup.roots.count();
+        post_all(
+            &mut self.keeper,
+            &self.setup.roots,
+            &self.limits,
+            &mut self.books,
+            Some(from.as_slice()),
+            Some(to.as_slice()),
+            octets,
+        );
+        self.counts.generation += 1;
+        self.history.push_reserved(Entry {
+            caller,
+            call: Call::Move { from, base, to },
+            fault: false,
+        });
+        Ok(Reply::Moved)
+    }
+}
