@@ -10,3 +10,4 @@ pub mod Answering
 pub mod Entering
 pub mod OpenLemmas
 pub mod Opened
+pub mod Filing
