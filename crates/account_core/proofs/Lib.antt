@@ -9,3 +9,4 @@ pub mod Moving
 pub mod Apart
 pub mod Naming
 pub mod Worked
+pub mod WholeScans

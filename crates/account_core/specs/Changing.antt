@@ -2,13 +2,13 @@
 use Rattle.std.specs.Prelude.{ℕ, ◌+◌, List, [], ◌∷◌, ◌++◌, Option, Some, None, bytes_eq, is_some, if◌then◌else◌}
 use Rattle.quota_units.specs.declared.flags.Flags.{Flags}
 use Rattle.quota_roots.specs.declared.root.RootSpec.{RootSpec}
+use Rattle.quota_roots.specs.Governing.{gaining}
 use Rattle.account_core.specs.declared.calls.Reply.{Reply}
 use Rattle.account_core.specs.declared.calls.Reply.TheVariants.{NoMessage, Delivered, Removed, Marked, NameTaken, Moved}
 use Rattle.account_core.specs.Account.{Account, Message}
 use Rattle.account_core.specs.Delivering.{delivered_base}
 use Rattle.account_core.specs.Messages.{named_message, removed, changed, with_flags, with_mailbox}
 use Rattle.account_core.specs.Refusals.{in_mailbox, if_message, over_of, over_in, over_or}
-use Rattle.quota_roots.specs.Governing.{gaining}
 
 -- the answer to a delivery: its number counts the accepted deliveries, from 1 on
 abbrev pub delivery_reply : List RootSpec → Account → List ℕ → ℕ → Reply

@@ -12,3 +12,4 @@ pub mod Histories
 pub mod Generations
 pub mod Naming
 pub mod Worked
+pub mod WholeScans

@@ -8,7 +8,6 @@ use Rattle.account_core.specs.declared.calls.Entry.{Entry}
 use Rattle.account_core.specs.declared.calls.Reply.TheVariants.{NoMailbox, NoMessage, Over, Removed, NameTaken, Moved, Status, Begun, NoPart, Part, Changed, Installed}
 use Rattle.account_core.specs.Account.{Message, Opened}
 use Rattle.account_core.specs.History.{reply, entry_of}
-use Rattle.account_core.specs.Plain.{plain_root}
 
 -- a message without flags
 abbrev pub plain_message : List ℕ → List ℕ → ℕ → Message
@@ -17,7 +16,7 @@ plain_message mailbox base octets = record { mailbox = mailbox; base = base; oct
 -- an account with the mailboxes INBOX, Lists and Trash
 abbrev pub worked : Option ℕ → List Message → Opened
 worked limit messages = record {
-  roots = plain_root ∷ [];
+  roots = (record { name = []; prefix = None }) ∷ [];
   journal = 64;
   account = record {
     limits = (record { octets = limit; count = None }) ∷ [];

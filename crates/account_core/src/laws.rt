@@ -1,6 +1,7 @@
 ghost use Rattle.account_core.specs.Generations.{EqualGenerationEqualUsage, GenerationIsCounted};
 ghost use Rattle.account_core.specs.Naming.{NamesStayApart};
 ghost use Rattle.account_core.specs.Worked.{MessagesAreCounted, MovesAreAnswered, ScansAreAnswered};
+ghost use Rattle.account_core.specs.WholeScans.{WholeScanIsUsage};
 ghost use Rattle.account_core.specs.Legality.{MoveOverWhereNoFit, NoneBroken, NoneBrokenByMoves, OverWhereNoFit};
 
 /// No accepted message breaks a limit, in any history.
@@ -40,6 +41,12 @@ pub fn equal_generations_have_equal_usages()
 /// A mailbox and a base name one message at most, in any history, where they did when the account was opened.
 pub fn names_stay_apart()
     ensures { NamesStayApart }
+{}
+
+/// The parts of the mailboxes that a root governs add up to its usage, in any history, where the mailboxes are different and each
+/// message was in one of them when the account was opened.
+pub fn whole_scans_are_usages()
+    ensures { WholeScanIsUsage }
 {}
 
 /// Worked accounts: moves out of Trash, into it and within a mailbox; messages that are moved, marked, removed and counted; and

@@ -16,7 +16,7 @@ pub use laws::{
     a_move_is_over_exactly_where_the_message_does_not_fit, equal_generations_have_equal_usages,
     names_stay_apart, no_accepted_message_breaks_a_limit, no_moved_message_breaks_a_limit,
     over_exactly_where_a_message_does_not_fit, the_generation_counts_the_changes,
-    worked_accounts_are_answered_so,
+    whole_scans_are_usages, worked_accounts_are_answered_so,
 };
 pub use plain::PlainAccount;
 pub use rows::RootRows;
