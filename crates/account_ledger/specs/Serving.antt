@@ -84,6 +84,14 @@ IsQuestion (Quota name) = Unit {0}
 IsQuestion (SetLimits name limits) = ⊥
 IsQuestion (Roots mailbox) = Unit {0}
 
+-- and those that are served today
+abbrev pub IsAnswered : Call → Type 0
+IsAnswered (Deliver mailbox octets flags) = ⊥
+IsAnswered (Check octets) = Unit {0}
+IsAnswered (Quota name) = Unit {0}
+IsAnswered (SetLimits name limits) = Unit {0}
+IsAnswered (Roots mailbox) = Unit {0}
+
 -- how the history changes by a call's result: an entry without fault, one with fault, or none
 abbrev pub Enters : ℕ → Call → Result Reply StepError → List Entry → List Entry → Type 0
 Enters caller call (Ok given) history history' = history' ≡ history ++ entry_of caller call false ∷ []

@@ -7,7 +7,7 @@ ghost use Rattle.account_core.specs.Machine.{governing_rows, over_in, reply_of};
 ghost use Rattle.account_ledger.specs.Rows.{IsVerdict};
 ghost use Rattle.keeper.specs.Causes.{HasCause};
 ghost use Rattle.account_ledger.specs.Order.{IsInOrder};
-ghost use Rattle.account_ledger.specs.Serving.{Opened, OfAccount, SettlesSome, Enters, IsQuestion, Leaves, is_place, needs};
+ghost use Rattle.account_ledger.specs.Serving.{Opened, OfAccount, SettledFor, SettlesSome, Serves, misses, IsAnswered, IsQuestion, Leaves, is_place, needs};
 ghost use Rattle.account_core.specs.Legality.{MayBeServed, fault_count};
 ghost use Rattle.account_core.specs.History.{entry_of};
 ghost use Rattle.keeper.specs.Calls.{Changes};
@@ -148,7 +148,7 @@ impl<K: Keeper> AccountState<K> {
         self.books[root as usize].standing
     }
 
-    /// Serves a call of this caller: a check, or a question on the quota of a root or on the roots of a mailbox.
+    /// Serves a call of this caller: a check, a question on the quota of a root or on the roots of a mailbox, or new limits.
     ///
     /// `bytes` are the octets of a delivered message, and empty for these calls.
     ///
@@ -157,7 +157,6 @@ impl<K: Keeper> AccountState<K> {
     /// `JournalFull` exactly where the history holds as many entries as the setup's journal allows; nothing changes then.
     /// `Store` only where the store failed in this call; the entry has fault then. `NoMemory`: there is no entry.
     /// After each error a root that was settled still is.
-    #[tactic(auto, using(crate::proofs::Entering::question_leaves, crate::proofs::Entering::question_served, crate::proofs::Entering::excused_more))]
     pub fn serve(
         &mut self,
         alloc: Global,
@@ -165,14 +164,9 @@ impl<K: Keeper> AccountState<K> {
         call: Call,
         bytes: &[u8],
     ) -> Result<Reply, StepError>
-        requires question { IsQuestion call }
+        requires answered { IsAnswered call }
         requires bytes { bytes.now ≡ [] }
-        ensures opened { Opened self.old self.new }
-        ensures enters { Enters caller call result self.old.history self.new.history }
-        ensures reply { IfOk result (λ given. OfAccount self.old (λ account. given ≡ reply_of self.old.setup.roots account call)) }
-        ensures settled { OnOk result ((root : ℕ) → needs self.old.setup.roots call root ≡ true → standing_at self.new.standings root ≡ Settled) }
-        ensures settles { SettlesSome (needs self.old.setup.roots call) self.old self.new }
-        ensures cause { HasCause (result ≡ Err StepError.Store) self.old.faults self.new.faults }
+        ensures serves { Serves caller call bytes.now result self.old self.new }
         ensures full { (limit : ℕ) → (result ≡ Err (StepError.JournalFull limit)) ↔ ((length self.old.history ≡ self.old.setup.journal) × (limit ≡ self.old.setup.journal)) }
         ensures unchanged { (limit : ℕ) → result ≡ Err (StepError.JournalFull limit) → self.new ≡ self.old }
         ensures order { IsInOrder self.new }
@@ -184,17 +178,37 @@ impl<K: Keeper> AccountState<K> {
             });
         }
         self.reserve_entry()?;
+        let answer = match call {
+            Call::SetLimits { root, limits } => self.set_limits(alloc, caller, root, limits),
+            call => self.ask(alloc, caller, call),
+        };
+        self.is_in_order();
+        answer
+    }
+
+    /// Answers a question, and enters it.
+    ///
+    /// # Errors
+    ///
+    /// `Store` where the store failed; the entry has fault then. `NoMemory`: there is no entry.
+    #[tactic(auto, using(crate::proofs::Entering::question_leaves, crate::proofs::Entering::question_served, crate::proofs::Entering::excused_more))]
+    fn ask(&mut self, alloc: Global, caller: u32, call: Call) -> Result<Reply, StepError>
+        requires question { IsQuestion call }
+        requires room { length self.old.history < self.old.setup.journal }
+        requires held { length self.old.history < self.old.reserved }
+        ensures serves { Serves caller call [] result self.old self.new }
+        ensures never_full { (limit : ℕ) → result ≢ Err (StepError.JournalFull limit) }
+    {
+        self.is_in_order();
         let answer = self.answer(alloc, &call);
         self.is_in_order();
         match answer {
             Ok(reply) => {
                 self.note(caller, call, false);
-                self.is_in_order();
                 Ok(reply)
             }
             Err(StepError::Store) => {
                 self.note(caller, call, true);
-                self.is_in_order();
                 Err(StepError::Store)
             }
             Err(fault) => Err(fault),
@@ -246,7 +260,7 @@ impl<K: Keeper> AccountState<K> {
         ensures history { self.new.history ≡ self.old.history }
         ensures reserved { self.new.reserved ≡ self.old.reserved }
         ensures reply { IfOk result (λ given. OfAccount self.old (λ account. given ≡ reply_of self.old.setup.roots account call.now)) }
-        ensures settled { OnOk result ((root : ℕ) → needs self.old.setup.roots call.now root ≡ true → standing_at self.new.standings root ≡ Settled) }
+        ensures settled { IfOk result (λ given. SettledFor (misses given) (needs self.old.setup.roots call.now) self.old self.new) }
         ensures settles { SettlesSome (needs self.old.setup.roots call.now) self.old self.new }
         ensures cause { HasCause (result ≡ Err StepError.Store) self.old.faults self.new.faults }
         ensures never_full { (limit : ℕ) → result ≢ Err (StepError.JournalFull limit) }
@@ -346,7 +360,7 @@ impl<K: Keeper> AccountState<K> {
         ensures history { self.new.history ≡ self.old.history }
         ensures reserved { self.new.reserved ≡ self.old.reserved }
         ensures reply { IfOk result (λ given. OfAccount self.old (λ account. given ≡ reply_of self.old.setup.roots account (Call.Quota name.now))) }
-        ensures settled { OnOk result ((root : ℕ) → is_place (place_of self.old.setup.roots name.now) root ≡ true → standing_at self.new.standings root ≡ Settled) }
+        ensures settled { IfOk result (λ given. SettledFor (misses given) (is_place (place_of self.old.setup.roots name.now)) self.old self.new) }
         ensures settles { SettlesSome (is_place (place_of self.old.setup.roots name.now)) self.old self.new }
         ensures cause { HasCause (result ≡ Err StepError.Store) self.old.faults self.new.faults }
         ensures never_full { (limit : ℕ) → result ≢ Err (StepError.JournalFull limit) }
@@ -371,7 +385,7 @@ impl<K: Keeper> AccountState<K> {
         ensures history { self.new.history ≡ self.old.history }
         ensures reserved { self.new.reserved ≡ self.old.reserved }
         ensures reply { IfOk result (λ given. OfAccount self.old (λ account. given ≡ reply_of self.old.setup.roots account (Call.Roots mailbox.now))) }
-        ensures settled { OnOk result ((root : ℕ) → governs_at self.old.setup.roots root mailbox.now ≡ true → standing_at self.new.standings root ≡ Settled) }
+        ensures settled { IfOk result (λ given. SettledFor (misses given) (λ root. governs_at self.old.setup.roots root mailbox.now) self.old self.new) }
         ensures settles { SettlesSome (λ root. governs_at self.old.setup.roots root mailbox.now) self.old self.new }
         ensures cause { HasCause (result ≡ Err StepError.Store) self.old.faults self.new.faults }
         ensures never_full { (limit : ℕ) → result ≢ Err (StepError.JournalFull limit) }
@@ -388,7 +402,7 @@ impl<K: Keeper> AccountState<K> {
         ensures history { self.new.history ≡ self.old.history }
         ensures reserved { self.new.reserved ≡ self.old.reserved }
         ensures reply { IfOk result (λ given. OfAccount self.old (λ account. given ≡ reply_of self.old.setup.roots account (Call.Check octets))) }
-        ensures settled { OnOk result ((root : ℕ) → governs_at self.old.setup.roots root (codes "INBOX") ≡ true → standing_at self.new.standings root ≡ Settled) }
+        ensures settled { IfOk result (λ given. SettledFor (misses given) (λ root. governs_at self.old.setup.roots root (codes "INBOX")) self.old self.new) }
         ensures settles { SettlesSome (λ root. governs_at self.old.setup.roots root (codes "INBOX")) self.old self.new }
         ensures cause { HasCause (result ≡ Err StepError.Store) self.old.faults self.new.faults }
         ensures never_full { (limit : ℕ) → result ≢ Err (StepError.JournalFull limit) }
