@@ -1,11 +1,11 @@
 -- Messages that fit, and what becomes of the usages where one is accepted.
-use Rattle.std.proofs.Common.{◌≡◌, ℕ, zero, suc, ◌+◌, ◌<◌, ◌↔◌, Bool, true, false, cond, not, ◌&&◌, List, [], ◌∷◌, ◌++◌, length, get_or, map, Option, Some, None, arith, refl, sym, ◌∙◌, ap, inl, inr, codes, sum_by, subst}
-use Rattle.std.specs.List.{All, Contains, filter_map, cons_option, slice_get}
+use Rattle.std.proofs.Common.{◌≡◌, ℕ, zero, suc, ◌+◌, ◌<◌, ◌↔◌, Bool, true, false, cond, not, ◌&&◌, List, [], ◌∷◌, ◌++◌, length, get_or, Option, Some, None, arith, refl, sym, ◌∙◌, ap, inl, inr, codes}
+use Rattle.std.specs.List.{Contains, filter_map, cons_option, slice_get}
 use Rattle.std.specs.Option.{option_map, option_map_or}
-use Rattle.std.proofs.lemmas.Bool.{and_parts, and_from, false≢true, cases_lt}
+use Rattle.std.proofs.lemmas.Bool.{and_parts, false≢true, cases_lt}
 use Rattle.std.proofs.lemmas.List.Sums.{sum_by_push}
 use Rattle.std.proofs.lemmas.List.Elements.{All-contains, Contains-get_or}
-use Rattle.std.proofs.lemmas.Option.{slice_get_past, slice_get-get_or}
+use Rattle.std.proofs.lemmas.Option.{slice_get_past}
 use Rattle.quota_units.specs.Limiting.{LimitNumbers}
 use Rattle.quota_units.specs.declared.flags.Flags.{Flags}
 use Rattle.quota_units.specs.declared.resource.Resource.{Resource}
@@ -14,15 +14,14 @@ use Rattle.quota_units.specs.declared.totals.Totals.{Totals}
 use Rattle.quota_roots.specs.declared.root.RootSpec.{RootSpec}
 use Rattle.quota_roots.specs.Governing.{governs, governs_at, governing}
 use Rattle.quota_roots.proofs.GoverningLemmas.{governing_members, governs_at_get_or}
-use Rattle.admission.specs.Fitting.{allows, over, first_over, all_over, limits_at, totals_at, fits_root, FitsEach}
-use Rattle.account_core.specs.declared.calls.Call.{Call}
-use Rattle.account_core.specs.declared.calls.Call.TheVariants.{Deliver, Check}
+use Rattle.admission.specs.Fitting.{allows, over, first_over, limits_at, totals_at, fits_root, FitsEach}
+use Rattle.account_core.specs.declared.calls.Call.TheVariants.{Deliver}
 use Rattle.account_core.specs.declared.calls.Entry.{Entry}
 use Rattle.account_core.specs.declared.calls.Reply.{Reply}
-use Rattle.account_core.specs.declared.calls.Reply.TheVariants.{Over, Delivered, NoMailbox, Fits}
+use Rattle.account_core.specs.declared.calls.Reply.TheVariants.{Delivered, NoMailbox, Fits}
 use Rattle.account_core.specs.Account.{Account, Message, Opened, counted, usage}
-use Rattle.account_core.specs.Machine.{has_mailbox, usages, over_in, over_or, step, reply_of, delivery_reply, delivered_message, delivered_after}
-use Rattle.account_core.specs.History.{replay, reply, entry_of, account_after}
+use Rattle.account_core.specs.Machine.{usages, over_in, over_or, delivered_message, delivered_after}
+use Rattle.account_core.specs.History.{reply, entry_of}
 use Rattle.account_core.specs.Legality.{AreWithin, account_at, FitsIn, NoneBroken, IsOver, OverWhereNoFit}
 use Rattle.account_core.proofs.Replaying.{replay_more}
 

@@ -3,5 +3,4 @@ pub mod Delivering
 pub mod Machine
 pub mod History
 pub mod Legality
-pub mod Plain
 pub mod Histories
