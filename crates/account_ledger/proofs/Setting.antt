@@ -1,20 +1,18 @@
 -- What a call that sets limits does to a state, case by case.
-use Rattle.std.proofs.Common.{◌≡◌, ℕ, true, false, Result, Err, List, [], ◌∷◌, ◌++◌, length, Bool, Option, Some, None, Ok, refl, sym, ◌∙◌, inl, subst, arith, Result, Ok, Err}
-use Rattle.std.specs.Prelude.{IfSome, IfOk}
+use Rattle.std.proofs.Common.{◌≡◌, ℕ, false, List, [], ◌∷◌, ◌++◌, length, Bool, Option, Some, None, Ok, refl, sym, ◌∙◌, inl, subst, arith}
+use Rattle.std.specs.Prelude.{IfSome}
 use Rattle.quota_units.specs.Limiting.{LimitNumbers}
 use Rattle.quota_roots.specs.RootLists.{place_of}
 use Rattle.keeper.specs.Files.{ledger_at}
 use Rattle.keeper.specs.Calls.{Told, Changes}
 use Rattle.account_core.specs.declared.calls.Call.{Call}
 use Rattle.account_core.specs.declared.calls.Call.TheVariants.{SetLimits}
-use Rattle.account_core.specs.declared.calls.Reply.{Reply}
-use Rattle.account_core.specs.declared.calls.StepError.{StepError}
 use Rattle.account_core.specs.declared.calls.Reply.TheVariants.{NoRoot}
 use Rattle.account_core.specs.Account.{Account}
 use Rattle.account_core.specs.History.{entry_of}
 use Rattle.account_ledger.specs.declared.book.Standing.TheVariants.{Settled, Doubt}
 use Rattle.account_ledger.specs.Settling.{OnFiles}
-use Rattle.account_ledger.specs.Serving.{AreFolded, LedgersStay, OfAccount, Opened, Serves, SettledFor, SettlesLedgers, SettlesSome, misses, needs}
+use Rattle.account_ledger.specs.Serving.{Opened, OfAccount, SettlesSome, SettlesLedgers, AreFolded, LedgersStay, Serves, needs}
 use Rattle.account_ledger.specs.States.{State, account_of}
 use Rattle.account_ledger.proofs.Changing.{changes_then, changes_weaken, changes_same}
 use Rattle.account_ledger.proofs.Replying.{of_weaker, limits_none}
@@ -94,43 +92,3 @@ module _ (caller : ℕ) (name : List ℕ) (limits : LimitNumbers) (s : State) wh
     rows = same_rows s.told;
     cause = λ is. absurd (cc);
   }
-
--- memory that was reserved changes nothing of what a call does
-module _ (caller : ℕ) (call : Call) (bytes : List ℕ) (s s' : State) (n : ℕ) where
-  abbrev held : State
-  held = record s { reserved = n }
-
-  opened_held : (m : State) → Opened held m → Opened s m
-  opened_held m o = record { setup = o.setup; epoch = o.epoch; opening = o.opening; first_faults = o.first_faults }
-
-  settles_held : (may : ℕ → Bool) (m : State) → SettlesSome may held m → SettlesSome may s m
-  settles_held may m o = record { files = o.files; texts = o.texts; count = o.count; each = o.each; appends = o.appends }
-
-  settled_held : (missed : Bool) (may : ℕ → Bool) (m : State) → SettledFor missed may held m → SettledFor missed may s m
-  settled_held true may m o = (record { standings = o.0.standings; ledgers = o.0.ledgers; appends = o.0.appends }, o.1)
-  settled_held false may m o = o
-
-  if_settled : (result : Result Reply StepError) (may : ℕ → Bool) (m : State) → IfOk result (λ given. SettledFor (misses given) may held m) → IfOk result (λ given. SettledFor (misses given) may s m)
-  if_settled (Ok given) may m o = settled_held (misses given) may m o
-  if_settled (Err e) may m o = tt
-
-  pub serves_held : (result : Result Reply StepError) → Serves caller call bytes result held s' → Serves caller call bytes result s s'
-  serves_held result o = record {
-    opened = opened_held s' o.opened;
-    enters = o.enters;
-    reply = o.reply;
-    ledgers = record {
-      middle = o.ledgers.middle;
-      opened = opened_held o.ledgers.middle o.ledgers.opened;
-      settles = settles_held (needs s.setup.roots call) o.ledgers.middle o.ledgers.settles;
-      settled = if_settled result (needs s.setup.roots call) o.ledgers.middle o.ledgers.settled;
-      later = o.ledgers.later;
-      calm = o.ledgers.calm;
-      writes = o.ledgers.writes;
-    };
-    rows = o.rows;
-    cause = o.cause;
-  }
-
-pub serves_from : (caller : ℕ) (call : Call) (bytes : List ℕ) (s m s' : State) (n : ℕ) (result : Result Reply StepError) → m ≡ record s { reserved = n } → Serves caller call bytes result m s' → Serves caller call bytes result s s'
-serves_from caller call bytes s m s' n result same serves = serves_held caller call bytes s s' n result (subst (λ (v : State). Serves caller call bytes result v s') same serves)

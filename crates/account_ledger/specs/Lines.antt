@@ -1,10 +1,12 @@
 -- The lines that calls write behind ledgers: one for each settled root whose usage changes.
-use Rattle.std.specs.Prelude.{◌≡◌, ◌≤◌, ◌+◌, ◌-◌, ◌^◌, ℕ, pos, neg_ℤ, min, Bool, true, false, nat_lt, if◌then◌else◌, List, length, ◌++◌, Option, Some, None}
+use Rattle.std.specs.Prelude.{◌≡◌, ◌<◌, ◌≤◌, ◌+◌, ◌-◌, ◌^◌, ℕ, pos, neg_ℤ, min, Bool, true, false, nat_lt, if◌then◌else◌, List, length, sum_by, ◌++◌, Option, Some, None}
+use Rattle.std.specs.List.{range_with_len}
 use Rattle.quota_units.specs.Limiting.{LimitNumbers}
 use Rattle.quota_units.specs.declared.totals.Totals.{Totals}
 use Rattle.quota_roots.specs.declared.root.RootSpec.{RootSpec}
 use Rattle.quota_roots.specs.Governing.{governs_at}
-use Rattle.keeper.specs.Files.{bytes_of}
+use Rattle.keeper.specs.Files.{Files, ledger_at, bytes_of}
+use Rattle.admission.specs.Fitting.{limits_at}
 use Rattle.maildirsize.specs.Sums.{Pair}
 use Rattle.maildirsize.specs.Written.{written_line}
 use Rattle.account_ledger.specs.declared.book.Book.{Book}
@@ -14,6 +16,7 @@ use Rattle.account_ledger.specs.declared.change.Change.{Change}
 use Rattle.account_ledger.specs.declared.change.Change.TheVariants.{Comes, Goes}
 use Rattle.account_ledger.specs.Scans.{cut_totals}
 use Rattle.account_ledger.specs.Ledgers.{folded}
+use Rattle.account_ledger.specs.Settling.{book_at}
 
 -- a mailbox, where there is one, is governed by the root of this number
 abbrev pub governs_in : List RootSpec → ℕ → Option (List ℕ) → Bool
@@ -75,11 +78,56 @@ pub record HasCauses (failures before now : ℕ) : Type 0 where
   pub rose : min (before + failures) (2 ^ 64 - 1) ≤ now
   pub kept : failures ≡ 0 → now ≡ before
 
--- what is kept of a root with a line, by its standing then
-abbrev pub lined_book : Change → ℕ → LimitNumbers → Book → Standing → Book
-lined_book change octets limits book Settled = record {
-  totals = totals_by change octets book.totals;
-  standing = Settled;
-  length = if has_room book.length (line_by change octets) then book.length + length (line_by change octets) else length (folded limits (totals_by change octets book.totals));
-}
-lined_book change octets limits book Doubt = record book { standing = Doubt }
+-- what is kept of a settled root with a line, by its standing then
+abbrev pub lined_book : List ℕ → List ℕ → Totals → Book → Standing → Book
+lined_book line text totals book Settled = record { totals = totals; standing = Settled; length = if has_room book.length line then book.length + length line else length text }
+lined_book line text totals book Doubt = record book { standing = Doubt }
+
+-- the line, the folded text and the usage of a change
+abbrev pub changed_book : Change → ℕ → LimitNumbers → Book → Standing → Book
+changed_book change octets limits book standing =
+    lined_book (line_by change octets) (folded limits (totals_by change octets book.totals)) (totals_by change octets book.totals) book standing
+
+abbrev pub ChangedLedger : Change → ℕ → LimitNumbers → Book → Option (List ℕ) → Standing → Option (List ℕ) → Type 0
+ChangedLedger change octets limits book ledger standing ledger' =
+    LineLedger (has_room book.length (line_by change octets)) (line_by change octets) (folded limits (totals_by change octets book.totals)) ledger standing ledger'
+
+-- where there is no room for the line, the folded text is short
+abbrev pub FoldsShort : Change → ℕ → LimitNumbers → Book → Type 0
+FoldsShort change octets limits book = has_room book.length (line_by change octets) ≡ false → length (folded limits (totals_by change octets book.totals)) < 5120
+
+-- what is kept of a root: that of a settled root whose usage changes, and no other
+abbrev pub BookBy : Standing → Change → ℕ → LimitNumbers → Book → Book → Type 0
+BookBy Doubt change octets limits book book' = book' ≡ book
+BookBy Settled change octets limits book book' = (book' ≡ changed_book change octets limits book book'.standing) × FoldsShort change octets limits book
+
+abbrev pub BookLined : Option Change → ℕ → LimitNumbers → Book → Book → Type 0
+BookLined None octets limits book book' = book' ≡ book
+BookLined (Some change) octets limits book book' = BookBy book.standing change octets limits book book'
+
+-- and its ledger
+abbrev pub LedgerBy : Standing → Change → ℕ → LimitNumbers → Book → Standing → Option (List ℕ) → Option (List ℕ) → Type 0
+LedgerBy Doubt change octets limits book standing' ledger ledger' = ledger' ≡ ledger
+LedgerBy Settled change octets limits book standing' ledger ledger' = ChangedLedger change octets limits book ledger standing' ledger'
+
+abbrev pub LedgerLined : Option Change → ℕ → LimitNumbers → Book → Standing → Option (List ℕ) → Option (List ℕ) → Type 0
+LedgerLined None octets limits book standing' ledger ledger' = ledger' ≡ ledger
+LedgerLined (Some change) octets limits book standing' ledger ledger' = LedgerBy book.standing change octets limits book standing' ledger ledger'
+
+-- the books of the roots below a number have their lines, and the others stay
+pub record BooksLined (upto : ℕ) (changes : ℕ → Option Change) (octets : ℕ) (limits : List LimitNumbers) (books books' : List Book) : Type 0 where
+  pub count : length books' ≡ length books
+  pub done : (root : ℕ) → root < upto → BookLined (changes root) octets (limits_at limits root) (book_at books root) (book_at books' root)
+  pub left : (root : ℕ) → upto ≤ root → book_at books' root ≡ book_at books root
+
+-- and so have their ledgers
+pub record LedgersLined (upto : ℕ) (changes : ℕ → Option Change) (octets : ℕ) (limits : List LimitNumbers) (books books' : List Book) (files files' : Files) : Type 0 where
+  pub rows : files'.rows ≡ files.rows
+  pub done : (root : ℕ) → root < upto
+      → LedgerLined (changes root) octets (limits_at limits root) (book_at books root) (book_at books' root).standing (ledger_at files root) (ledger_at files' root)
+  pub left : (root : ℕ) → upto ≤ root → ledger_at files' root ≡ ledger_at files root
+
+-- how many of the roots below a number fell into doubt, where there was such room for their line
+abbrev pub fell_below : ℕ → Bool → (ℕ → Option Change) → ℕ → List Book → List Book → ℕ
+fell_below upto room changes octets books books' =
+    sum_by (λ root. fallen_at room (changes root) octets (book_at books root).standing (book_at books root).length (book_at books' root).standing) (range_with_len 0 upto)

@@ -1,14 +1,14 @@
 -- What calls do to the state of an account.
-use Rattle.std.specs.Prelude.{◌≡◌, ◌≢◌, ◌⊎◌, ◌≤◌, ℕ, Bool, true, false, nat_eq, codes, if◌then◌else◌, List, [], ◌∷◌, ◌++◌, length, sum_by, Option, Some, None, Result, Ok, Err, IfSome, IfOk}
+use Rattle.std.specs.Prelude.{◌≡◌, ◌≢◌, ◌⊎◌, ◌≤◌, ℕ, Bool, true, false, not, ◌&&◌, nat_eq, codes, if◌then◌else◌, List, [], ◌∷◌, ◌++◌, length, sum_by, Option, Some, None, Result, Ok, Err, IfSome, IfOk}
 use Rattle.std.specs.List.{range_with_len}
 use Rattle.quota_roots.specs.declared.root.RootSpec.{RootSpec}
 use Rattle.quota_roots.specs.Governing.{governs_at}
 use Rattle.quota_roots.specs.RootLists.{place_of}
 use Rattle.account_core.specs.declared.calls.Call.{Call}
-use Rattle.account_core.specs.declared.calls.Call.TheVariants.{Deliver, Check, Quota, SetLimits, Roots}
+use Rattle.account_core.specs.declared.calls.Call.TheVariants.{Deliver, Check, Remove, Mark, Move, Quota, SetLimits, Roots, Status, ScanBegin, ScanPart, Install}
 use Rattle.account_core.specs.declared.calls.Entry.{Entry}
 use Rattle.account_core.specs.declared.calls.Reply.{Reply}
-use Rattle.account_core.specs.declared.calls.Reply.TheVariants.{Delivered, LimitsSet, NoMailbox, NoRoot}
+use Rattle.account_core.specs.declared.calls.Reply.TheVariants.{Delivered, LimitsSet, NoMailbox, NoMessage, NameTaken, NoRoot}
 use Rattle.account_core.specs.declared.calls.RootRow.{RootRow}
 use Rattle.account_core.specs.Delivering.{delivered_base}
 use Rattle.message_names.specs.Written.{written_name}
@@ -75,22 +75,43 @@ needs roots (Check octets) root = governs_at roots root (codes "INBOX")
 needs roots (Quota name) root = is_place (place_of roots name) root
 needs roots (SetLimits name limits) root = is_place (place_of roots name) root
 needs roots (Roots mailbox) root = governs_at roots root mailbox
+needs roots (Move from base to) root = governs_at roots root to && not (governs_at roots root from)
+needs roots (Remove mailbox base) root = false
+needs roots (Mark mailbox base flags) root = false
+needs roots (Status mailbox) root = false
+needs roots ScanBegin root = false
+needs roots (ScanPart index) root = false
+needs roots (Install generation) root = false
 
--- the calls that leave the account
+-- what each call that is served today has to meet
+abbrev pub IsServed : Call → Type 0
+IsServed (Deliver mailbox octets flags) = octets ≤ 67108864
+IsServed (Check octets) = Unit {0}
+IsServed (Quota name) = Unit {0}
+IsServed (SetLimits name limits) = Unit {0}
+IsServed (Roots mailbox) = Unit {0}
+IsServed (Remove mailbox base) = ⊥
+IsServed (Mark mailbox base flags) = ⊥
+IsServed (Move from base to) = ⊥
+IsServed (Status mailbox) = ⊥
+IsServed ScanBegin = ⊥
+IsServed (ScanPart index) = ⊥
+IsServed (Install generation) = ⊥
+
+-- the calls that are served, which leave the account
 abbrev pub IsQuestion : Call → Type 0
 IsQuestion (Deliver mailbox octets flags) = ⊥
 IsQuestion (Check octets) = Unit {0}
 IsQuestion (Quota name) = Unit {0}
 IsQuestion (SetLimits name limits) = ⊥
 IsQuestion (Roots mailbox) = Unit {0}
-
--- and those that are served today
-abbrev pub IsAnswered : Call → Type 0
-IsAnswered (Deliver mailbox octets flags) = ⊥
-IsAnswered (Check octets) = Unit {0}
-IsAnswered (Quota name) = Unit {0}
-IsAnswered (SetLimits name limits) = Unit {0}
-IsAnswered (Roots mailbox) = Unit {0}
+IsQuestion (Remove mailbox base) = ⊥
+IsQuestion (Mark mailbox base flags) = ⊥
+IsQuestion (Move from base to) = ⊥
+IsQuestion (Status mailbox) = ⊥
+IsQuestion ScanBegin = ⊥
+IsQuestion (ScanPart index) = ⊥
+IsQuestion (Install generation) = ⊥
 
 -- how the history changes by a call's result: an entry without fault, one with fault, or none
 abbrev pub Enters : ℕ → Call → Result Reply StepError → List Entry → List Entry → Type 0
@@ -100,8 +121,8 @@ Enters caller call (Err (JournalFull limit)) history history' = history' ≡ his
 Enters caller call (Err NoMemory) history history' = history' ≡ history
 
 -- an entry of the call leaves the account
-abbrev pub Leaves : List RootSpec → Call → Bool → Type 0
-Leaves roots call fault = (account : Account) → (if fault then account else step roots account call) ≡ account
+abbrev pub Leaves : List RootSpec → Call → Bool → Account → Type 0
+Leaves roots call fault account = (if fault then account else step roots account call) ≡ account
 
 -- the files' ledgers, and the standings, stay
 pub record LedgersStay (s s' : State) : Type 0 where
@@ -159,6 +180,13 @@ WritesFor (Quota name) given s s' = StayCalm s s'
 WritesFor (SetLimits name limits) (LimitsSet row) s s' = InstallsLimits row s s'
 WritesFor (SetLimits name limits) given s s' = StayCalm s s'
 WritesFor (Roots mailbox) given s s' = StayCalm s s'
+WritesFor (Remove mailbox base) given s s' = StayCalm s s'
+WritesFor (Mark mailbox base flags) given s s' = StayCalm s s'
+WritesFor (Move from base to) given s s' = StayCalm s s'
+WritesFor (Status mailbox) given s s' = StayCalm s s'
+WritesFor ScanBegin given s s' = StayCalm s s'
+WritesFor (ScanPart index) given s s' = StayCalm s s'
+WritesFor (Install generation) given s s' = StayCalm s s'
 
 abbrev pub WritesBy : Call → Result Reply StepError → State → State → Type 0
 WritesBy call (Ok given) s s' = WritesFor call given s s'
@@ -169,6 +197,8 @@ WritesBy call (Err (JournalFull limit)) s s' = StayCalm s s'
 -- what a reply names is not there
 abbrev pub misses : Reply → Bool
 misses NoMailbox = true
+misses NoMessage = true
+misses NameTaken = true
 misses NoRoot = true
 misses given = false
 
@@ -189,11 +219,41 @@ pub record ServesLedgers (call : Call) (result : Result Reply StepError) (s s' :
   pub calm : result ≢ Err Store → middle.faults ≡ s.faults
   pub writes : WritesBy call result middle s'
 
--- what a call does to the message files: an accepted message is the last of them
-abbrev pub ServesRows : ℕ → Call → List ℕ → Result Reply StepError → List Row → List Row → Type 0
-ServesRows epoch (Deliver mailbox octets flags) bytes (Ok (Delivered number)) rows rows' =
+-- what a call that was replied to does to the message files: an accepted message is the last of them
+abbrev pub RowsFor : ℕ → Call → List ℕ → Reply → List Row → List Row → Type 0
+RowsFor epoch (Deliver mailbox octets flags) bytes (Delivered number) rows rows' =
     rows' ≡ rows ++ record { mailbox = mailbox; name = written_name (delivered_base epoch number) octets flags; octets = bytes } ∷ []
-ServesRows epoch call bytes result rows rows' = rows' ≡ rows
+RowsFor epoch (Deliver mailbox octets flags) bytes given rows rows' = rows' ≡ rows
+RowsFor epoch (Check octets) bytes given rows rows' = rows' ≡ rows
+RowsFor epoch (Quota name) bytes given rows rows' = rows' ≡ rows
+RowsFor epoch (SetLimits name limits) bytes given rows rows' = rows' ≡ rows
+RowsFor epoch (Roots mailbox) bytes given rows rows' = rows' ≡ rows
+RowsFor epoch (Remove mailbox base) bytes given rows rows' = rows' ≡ rows
+RowsFor epoch (Mark mailbox base flags) bytes given rows rows' = rows' ≡ rows
+RowsFor epoch (Move from base to) bytes given rows rows' = rows' ≡ rows
+RowsFor epoch (Status mailbox) bytes given rows rows' = rows' ≡ rows
+RowsFor epoch ScanBegin bytes given rows rows' = rows' ≡ rows
+RowsFor epoch (ScanPart index) bytes given rows rows' = rows' ≡ rows
+RowsFor epoch (Install generation) bytes given rows rows' = rows' ≡ rows
+
+abbrev pub ServesRows : ℕ → Call → List ℕ → Result Reply StepError → List Row → List Row → Type 0
+ServesRows epoch call bytes (Ok given) rows rows' = RowsFor epoch call bytes given rows rows'
+ServesRows epoch call bytes (Err e) rows rows' = rows' ≡ rows
+
+-- a message has as many octets as the call says; other calls have none
+abbrev pub HasBytes : Call → List ℕ → Type 0
+HasBytes (Deliver mailbox octets flags) bytes = octets ≡ length bytes
+HasBytes (Check octets) bytes = bytes ≡ []
+HasBytes (Quota name) bytes = bytes ≡ []
+HasBytes (SetLimits name limits) bytes = bytes ≡ []
+HasBytes (Roots mailbox) bytes = bytes ≡ []
+HasBytes (Remove mailbox base) bytes = bytes ≡ []
+HasBytes (Mark mailbox base flags) bytes = bytes ≡ []
+HasBytes (Move from base to) bytes = bytes ≡ []
+HasBytes (Status mailbox) bytes = bytes ≡ []
+HasBytes ScanBegin bytes = bytes ≡ []
+HasBytes (ScanPart index) bytes = bytes ≡ []
+HasBytes (Install generation) bytes = bytes ≡ []
 
 -- what a call does to a state
 pub record Serves (caller : ℕ) (call : Call) (bytes : List ℕ) (result : Result Reply StepError) (s s' : State) : Type 0 where

@@ -1,4 +1,4 @@
-ghost use Rattle.std.specs.Prelude.{◌≡◌, ℕ, Option, false};
+ghost use Rattle.std.specs.Prelude.{◌≡◌, ℕ, false, Option};
 ghost use Rattle.quota_units.specs.declared.resource.Resource.{Resource};
 ghost use Rattle.account_core.specs.Machine.{over_or};
 ghost use Rattle.account_ledger.specs.Faults.{step_error};

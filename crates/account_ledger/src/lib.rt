@@ -4,8 +4,11 @@
 mod book;
 mod booked;
 mod change;
+mod counts;
+mod deliver;
 mod fault;
 mod limits;
+mod lines;
 mod open;
 mod rows;
 mod scan;

@@ -1,18 +1,10 @@
-use Rattle.std.proofs.Common.{[]}
-use Rattle.account_core.specs.declared.calls.Call.TheVariants.{SetLimits}
-use Rattle.account_ledger.proofs.Setting.{serves_from}
+use Rattle.account_ledger.specs.Serving.{Serves}
+use Rattle.account_ledger.specs.States.{State}
+use Rattle.std.proofs.Common.{subst}
+use Rattle.account_ledger.proofs.Served.{serves_held}
 use Rattle.account_ledger.proofs.state.AccountState.serve.Goals as goal
-use Rattle.account_ledger.proofs.state.AccountState.serve.Goals.{in-SetLimits, in_default}
 
-pub returns-clause-serves : goal.returns-clause-serves
-returns-clause-serves g c =
-    let s = c.args.self.now in
-    let m = c.reserve_entry.new.self in
-    rw c.requires.bytes (elim c.match-call-3.branch [
-      | in-SetLimits w ↦
-          rw (w.self-is, w.answer-is, w.in-SetLimits.is) (serves_from c.args.caller (SetLimits w.in-SetLimits.root w.in-SetLimits.limits) [] s m w.set_limits-answer.new.self m.reserved w.set_limits-answer.result
-          c.in_ok-reserve_entry.ensures.same w.set_limits-answer.ensures.serves)
-      | in_default w ↦
-          rw (w.self-is, w.answer-is) (serves_from c.args.caller c.args.call [] s m w.ask-answer.new.self m.reserved w.ask-answer.result
-          c.in_ok-reserve_entry.ensures.same w.ask-answer.ensures.serves)
-    ])
+pub returns-clause-ledgers : goal.returns-clause-ledgers
+returns-clause-ledgers g c =
+    let served = subst (λ (s : State). Serves c.args.caller c.args.call c.args.bytes.now c.enter-answer.result s c.enter-answer.new.self) c.reserve_entry.ensures.same c.enter-answer.ensures.serves in
+    (serves_held c.args.self.now c.reserve_entry.new.self.reserved c.args.caller c.args.call c.args.bytes.now c.enter-answer.result c.enter-answer.new.self served).ledgers
