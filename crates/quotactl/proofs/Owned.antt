@@ -1,5 +1,5 @@
 -- What the owner's call does, from what a call does to the state of an account.
-use Rattle.std.proofs.Common.{◌≡◌, ◌≢◌, ◌↔◌, ℕ, false, List, length, Option, Some, None, Result, Ok, Err, refl, ap, arith, unwrap_or}
+use Rattle.std.proofs.Common.{◌≡◌, ◌≢◌, ◌↔◌, ℕ, false, length, Option, Some, None, Result, Ok, Err, refl, ap, arith, unwrap_or}
 use Rattle.std.specs.Prelude.{IfOk, IfSome}
 use Rattle.std.specs.Option.{option_map}
 use Rattle.std.proofs.lemmas.List.{length_push}
