@@ -1,8 +1,8 @@
 -- Histories under several callers: where one begins, what begins it, and which of its entries are a caller's.
-use Rattle.std.specs.Prelude.{◌≡◌, ◌<◌, ◌==◌, ℕ, if◌then◌else◌, List, [], ◌∷◌, ◌++◌, Option, Some}
+use Rattle.std.specs.Prelude.{◌≡◌, ◌<◌, ◌==◌, ℕ, if◌then◌else◌, List, [], ◌∷◌, ◌++◌, Option}
 use Rattle.quota_roots.specs.declared.root.RootSpec.{RootSpec}
 use Rattle.account_core.specs.declared.calls.Entry.{Entry}
-use Rattle.account_core.specs.Account.{Account, Opened}
+use Rattle.account_core.specs.Account.{Account}
 
 -- Where a history begins. The opening account is there where the account's store tells what it holds.
 pub record Origin : Type 0 where
@@ -12,10 +12,6 @@ pub record Origin : Type 0 where
   -- the second at which the account was opened
   pub epoch : ℕ
   pub account : Option Account
-
--- that of an account that tells all
-abbrev pub origin_of : Opened → Origin
-origin_of opened = record { roots = opened.roots; journal = opened.journal; epoch = opened.account.epoch; account = Some opened.account }
 
 -- the history begins with these entries: they are a prefix of it
 abbrev pub Begins : List Entry → List Entry → Type 0

@@ -7,7 +7,6 @@ pub mod Scanning
 pub mod Machine
 pub mod History
 pub mod Legality
-pub mod Plain
 pub mod Histories
 pub mod Generations
 pub mod Naming

@@ -8,15 +8,20 @@ use Rattle.account_core.specs.declared.calls.Entry.{Entry}
 use Rattle.account_core.specs.declared.calls.Reply.TheVariants.{NoMailbox, NoMessage, Over, Removed, NameTaken, Moved, Status, Begun, NoPart, Part, Changed, Installed}
 use Rattle.account_core.specs.Account.{Message, Opened}
 use Rattle.account_core.specs.History.{reply, entry_of}
+use Rattle.quota_roots.specs.declared.root.RootSpec.{RootSpec}
 
 -- a message without flags
 abbrev pub plain_message : List ℕ → List ℕ → ℕ → Message
 plain_message mailbox base octets = record { mailbox = mailbox; base = base; octets = octets; flags = flags_among [] }
 
+-- the root of the empty name, which governs all mailboxes but Trash
+abbrev pub worked_root : RootSpec
+worked_root = record { name = []; prefix = None }
+
 -- an account with the mailboxes INBOX, Lists and Trash
 abbrev pub worked : Option ℕ → List Message → Opened
 worked limit messages = record {
-  roots = (record { name = []; prefix = None }) ∷ [];
+  roots = worked_root ∷ [];
   journal = 64;
   account = record {
     limits = (record { octets = limit; count = None }) ∷ [];

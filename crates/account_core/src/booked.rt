@@ -1,8 +1,6 @@
 ghost use Rattle.std.specs.Prelude.{List};
 ghost use Rattle.account_core.specs.declared.calls.Entry.{Entry};
-ghost use Rattle.account_core.specs.Histories.{Origin, origin_of};
-
-use crate::PlainAccount;
+ghost use Rattle.account_core.specs.Histories.{Origin};
 
 /// A value that stands for a history of an account. It names the history for contracts, and has no method.
 ///
@@ -11,10 +9,4 @@ pub trait Booked {
     ghost origin: { Self → Origin };
 
     ghost history: { Self → List Entry };
-}
-
-impl Booked for PlainAccount {
-    ghost origin = { λ account. origin_of account.opened };
-
-    ghost history = { λ account. account.history };
 }

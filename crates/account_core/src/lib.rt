@@ -5,7 +5,6 @@ mod booked;
 mod calls;
 mod delivered;
 mod laws;
-mod plain;
 mod rows;
 mod scans;
 
@@ -18,7 +17,6 @@ pub use laws::{
     over_exactly_where_a_message_does_not_fit, the_generation_counts_the_changes,
     whole_scans_are_usages, worked_accounts_are_answered_so,
 };
-pub use plain::PlainAccount;
 pub use rows::RootRows;
 pub use scans::{RootSets, TotalsList};
 

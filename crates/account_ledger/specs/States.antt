@@ -10,6 +10,7 @@ use Rattle.account_core.specs.declared.calls.Entry.{Entry}
 use Rattle.account_core.specs.Account.{Account}
 use Rattle.account_core.specs.Machine.{usages}
 use Rattle.account_core.specs.History.{replay}
+use Rattle.account_core.specs.Histories.{Origin}
 use Rattle.account_ledger.specs.Opening.{opening_of}
 use Rattle.account_ledger.specs.declared.book.Standing.{Standing}
 use Rattle.account_ledger.specs.declared.book.Standing.TheVariants.{Doubt}
@@ -37,6 +38,10 @@ pub record State : Type 0 where
 -- the account now, where the opening one is told
 abbrev pub account_of : State → Option Account
 account_of s = option_map (λ opening. replay s.setup.roots opening s.history) s.opening
+
+-- where its history begins
+abbrev pub origin_of : State → Origin
+origin_of s = record { roots = s.setup.roots; journal = s.setup.journal; epoch = s.epoch; account = s.opening }
 
 abbrev pub standing_at : List Standing → ℕ → Standing
 standing_at standings root = slice_index_or standings root Doubt

@@ -2,6 +2,7 @@
 #![tactic(auto)]
 
 mod book;
+mod booked;
 mod change;
 mod counts;
 mod deliver;

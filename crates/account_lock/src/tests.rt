@@ -1,15 +1,14 @@
-// The lock over a value of the tests' own, a list of entries beside a number, and over the plain account.
+// The lock over a value of the tests' own, a list of entries beside a number.
 ghost use Rattle.std.specs.Prelude.{◌≡◌, ◌≢◌, ◌+◌, ◌++◌, [], ◌∷◌, length, if◌then◌else◌, OnOk, OnErr, IfSome};
 ghost use Rattle.std.specs.Thread.{IsSync};
 ghost use Rattle.account_core.specs.declared.calls.Entry.{Entry};
 ghost use Rattle.account_core.specs.Histories.{CallersBelow};
-ghost use Rattle.account_core.specs.Plain.{IsPlainCall};
 ghost use Rattle.account_lock.specs.Known.{nowhere};
 ghost use Rattle.account_lock.specs.Passes.{IsOf, view};
 
 use super::{CloseFault, Full, Lock, LockFault, Pass};
-use account_core::{Booked, Call, Entry, PlainAccount, Reply, StepError};
-use quota_units::{Limits, Name, NoMemory};
+use account_core::{Booked, Call, Entry};
+use quota_units::{Name, NoMemory};
 use std::alloc::{AllocError, Global};
 use std::sync::Wait;
 use std::test::Fail;
@@ -340,57 +339,5 @@ fn a_closed_history_has_just_the_calls_that_were_made(rt: HostRuntime) -> Result
     };
     assert!(rt; made && also, "calls were not made");
     assert_eq!(rt; tally.entries.len(), 2);
-    Ok(())
-}
-
-/// Serves a call of the owner in a turn of its own.
-fn serve<R: Wait>(
-    rt: &R,
-    alloc: Global,
-    lock: &Lock<PlainAccount>,
-    pass: &mut Pass,
-    call: Call,
-) -> Result<Reply, StepError>
-    requires lock { IsOf lock.now pass.old }
-    requires owner { (view pass.old).number ≡ 0 }
-    requires plain { IsPlainCall call }
-    ensures lock { IsOf lock.now pass.new }
-    ensures owner { (view pass.new).number ≡ 0 }
-    ensures own { OnOk result ((view pass.new).own ≡ (view pass.old).own + 1) }
-{
-    let mut turn = lock.enter(rt, pass);
-    let reply = turn.state().serve(alloc, call);
-    match reply {
-        Ok(reply) => {
-            turn.commit();
-            Ok(reply)
-        }
-        Err(StepError::NoMemory) => {
-            turn.leave();
-            Err(StepError::NoMemory)
-        }
-        Err(StepError::JournalFull { limit }) => {
-            turn.leave();
-            Err(StepError::JournalFull { limit })
-        }
-        Err(StepError::Store) => unreachable!(),
-    }
-}
-
-#[test]
-fn the_plain_account_is_served_under_its_lock(rt: HostRuntime) -> Result<(), Fail> {
-    let alloc = rt.alloc();
-    let limits = Limits::new(Some(1024), None).ok_or("limits in range")?;
-    let account = PlainAccount::new(alloc, limits)?;
-    let Ok((lock, mut pass)) = Lock::new(alloc, account, 1) else {
-        return Err("no memory".into());
-    };
-    let root = Name::of(alloc, b"")?;
-    let reply = serve(&rt, alloc, &lock, &mut pass, Call::Quota { root })?;
-    match &reply {
-        Reply::Quota(row) => assert_eq!(rt; row.limits, limits),
-        _ => return Err("a reply of another call".into()),
-    }
-    assert!(rt; lock.close(pass).is_ok(), "refused with all passes joined");
     Ok(())
 }

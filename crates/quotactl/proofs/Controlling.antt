@@ -1,11 +1,11 @@
 -- What the program writes, as a function of its words and its input.
-use Rattle.std.proofs.Common.{true, false, ◌≡◌, ◌≢◌, ◌<◌, ◌≤◌, ◌^◌, ◌⊎◌, ℕ, Bool, List, [], ◌∷◌, ◌++◌, length, get_or, Option, Some, None, IfSome, refl, sym, ap, ◌∙◌, subst, append-nil, inl, inr, arith, if◌then◌else◌, codes}
+use Rattle.std.proofs.Common.{true, false, ◌≡◌, ◌≢◌, ◌<◌, ◌≤◌, ◌*◌, ◌^◌, ◌⊎◌, ℕ, Bool, List, [], ◌∷◌, ◌++◌, length, get_or, Option, Some, None, IfSome, refl, sym, ap, ◌∙◌, subst, append-nil, inl, inr, arith, if◌then◌else◌, codes}
 use Rattle.std.proofs.lemmas.Bool.Decides.{nat_tests}
 use Rattle.std.proofs.lemmas.Fmt.{decimal_injective}
 use Rattle.std.specs.Fmt.{decimal}
 use Rattle.std.specs.Io.KnownBytes.{Appends}
 use Rattle.wire_io.specs.declared.ends.SessionEnd.{SessionEnd}
-use Rattle.wire_io.specs.declared.ends.SessionEnd.TheVariants.{ReadFault, WriteFault, NoMemory}
+use Rattle.wire_io.specs.declared.ends.SessionEnd.TheVariants.{NoMemory}
 use Rattle.wire_io.specs.Session.{IsQuiet}
 use Rattle.wire_io.specs.Transcript.{IsAnswered}
 use Rattle.wire_io.proofs.Transcribing.{session_decided}
@@ -18,7 +18,9 @@ use Rattle.quotactl.specs.Texts.{greeting}
 use Rattle.quotactl.specs.Owner.{is_full, owner}
 use Rattle.quotactl.specs.Serving.{input_limit, NeverStore, Owns, IsSession}
 use Rattle.quotactl.specs.Words.{IsSessionForm}
-use Rattle.quotactl.specs.Control.{RunsSession, status_of, fresh, session_of}
+use Rattle.quota_units.specs.Limiting.{LimitNumbers}
+use Rattle.quotactl.specs.Plain.{plain_opened}
+use Rattle.quotactl.specs.Control.{Runs, served, no_account, status_of, fresh, session_of}
 use Rattle.quotactl.proofs.Lines.{imap_filled}
 
 abbrev book : Opened → List Entry → Book
@@ -78,17 +80,23 @@ form_number words n m a b =
     let same : decimal n ≡ decimal m = cc in
     decimal_injective n m (omega (arith, a.bounded)) (omega (arith, b.bounded)) same
 
--- the status and all that is written
-pub control_output : (words : List (List ℕ)) (left left' written written' : Option (List ℕ)) (units m : ℕ) (end : SessionEnd) (status : ℕ) (R W : Type 0) → IsSessionForm words units → IsSessionForm words m
-    → RunsSession left left' written written' units end → status ≡ status_of end → (end ≡ ReadFault → R) → (end ≡ WriteFault → W)
+-- the status and all that is written, where nothing failed and there was memory
+pub control_output : (words : List (List ℕ)) (left left' written written' : Option (List ℕ)) (units m : ℕ) (status : ℕ) (R W : Type 0) → IsSessionForm words units → IsSessionForm words m
+    → Runs left left' written written' units status → (status ≡ 4 → R) → (status ≡ 5 → W)
     → IfSome left (λ input. (R → ⊥) → (W → ⊥) → status ≢ 6 → (status ≡ status_of (session_of m input).end) × Appends written written' (greeting ++ (session_of m input).text))
-control_output words None left' written written' units m end status R W form own runs is read write = tt
-control_output words (Some input) left' written written' units m end status R W form own runs is read write = λ unread unwritten some.
-    let quiet : IsQuiet end = ((λ e. unread (read e)), (λ e. unwritten (write e))) in
+control_output words None left' written written' units m status R W form own runs read write = tt
+control_output words (Some input) left' written written' units m status R W form own (no_account source sink is) read write = λ unread unwritten some. absurd (some is)
+control_output words (Some input) left' written written' units m status R W form own (served account' end session is) read write = λ unread unwritten some.
+    let quiet : IsQuiet end = ((λ e. unread (read (is ∙ ap status_of e))), (λ e. unwritten (write (is ∙ ap status_of e)))) in
     let memory : end ≢ NoMemory = λ e. some (is ∙ ap status_of e) in
     let same = form_number words units m form own in
-    let out = output_is (Some input) left' written written' m runs.0 end (subst (λ n. IsSession (Some input) left' written written' (fresh n) runs.0 end) same runs.1) quiet memory in
+    let out = output_is (Some input) left' written written' m account' end (subst (λ n. IsSession (Some input) left' written written' (fresh n) account' end) same session) quiet memory in
     (is ∙ ap status_of out.0, out.1)
+
+-- an account that was just opened
+pub is_fresh : (account : Book) (n : ℕ) (limits : LimitNumbers) → account.opened ≡ plain_opened limits → account.history ≡ [] → limits ≡ record { octets = Some (1024 * n); count = None } → account ≡ fresh n
+is_fresh account n limits opened none are =
+    ap (λ h. book account.opened h) none ∙ ap (λ o. book o []) (opened ∙ ap plain_opened are)
 
 -- two words
 pub two_words : {X : Type 0} (xs : List X) (a b : X) → 2 ≤ length xs → length xs < 3 → a ≡ get_or xs 0 a → b ≡ get_or xs 1 b → xs ≡ a ∷ b ∷ []

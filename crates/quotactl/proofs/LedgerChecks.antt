@@ -1,6 +1,6 @@
 -- What `check` writes, as a function of its input.
 use Rattle.std.proofs.Common.{◌≡◌, ◌≢◌, ◌≤◌, ◌⊎◌, ℕ, List, [], ◌++◌, length, take, Option, Some, None, IfSome, sym, ap, ◌∙◌, subst, inl, inr, append-nil}
-use Rattle.std.specs.Io.KnownBytes.{Consumes, Appends, IsAtEnd}
+use Rattle.std.specs.Io.KnownBytes.{Appends}
 use Rattle.std.proofs.lemmas.List.{take_at, take_all}
 use Rattle.quotactl.specs.Checking.{max_checked, Tells, TakesLedger, ChecksLedger, told, cut, unread}
 

@@ -1,3 +1,4 @@
+pub mod Owned
 pub mod Rows
 pub mod Owning
 pub mod Lines

@@ -1,13 +1,12 @@
 -- What the program does with its words.
-use Rattle.std.specs.Prelude.{◌≡◌, ◌≤◌, ◌<◌, ◌*◌, ℕ, List, [], ◌∷◌, codes, Option, Some, None}
+use Rattle.std.specs.Prelude.{◌≡◌, ◌*◌, ℕ, List, [], codes, Option, Some, None}
 use Rattle.std.specs.Io.KnownBytes.{Appends, Keeps}
-use Rattle.std.specs.Fmt.{decimal}
 use Rattle.wire_io.specs.Sending.{AppendsPart}
 use Rattle.wire_io.specs.Transcript.{Transcript, transcript}
 use Rattle.wire_io.specs.declared.ends.SessionEnd.{SessionEnd}
 use Rattle.wire_io.specs.declared.ends.SessionEnd.TheVariants.{Closed, Stopped, Truncated, InputLimit, ReadFault, WriteFault, NoMemory}
 use Rattle.account_core.specs.History.{Book}
-use Rattle.account_core.specs.Plain.{plain_opened}
+use Rattle.quotactl.specs.Plain.{plain_opened}
 use Rattle.quotactl.specs.Imap.{imap}
 use Rattle.quotactl.specs.Owner.{owner}
 use Rattle.quotactl.specs.Serving.{input_limit, IsSession}
@@ -35,15 +34,17 @@ fresh n = record { opened = plain_opened (record { octets = Some (1024 * n); cou
 abbrev pub session_of : ℕ → List ℕ → Transcript
 session_of n input = transcript imap owner input_limit (fresh n) input
 
--- a session of such an account, to its end
-abbrev pub RunsSession : (left left' written written' : Option (List ℕ)) → ℕ → SessionEnd → Type 0
-RunsSession left left' written written' n end = (account' : Book) × IsSession left left' written written' (fresh n) account' end
+-- what comes of an account with so many units, and of a session of it
+pub data Runs (left left' written written' : Option (List ℕ)) (n status : ℕ) : Type 0 where
+  -- the session was served to its end
+  served : (account' : Book) (end : SessionEnd) → IsSession left left' written written' (fresh n) account' end → status ≡ status_of end → Runs left left' written written' n status
+  -- there was no memory for the account
+  no_account : Keeps left left' → Keeps written written' → status ≡ 6 → Runs left left' written written' n status
 
 -- what the program does, by its words
 pub data Controls (words : List (List ℕ)) (left left' written written' : Option (List ℕ)) (status : ℕ) : Type 0 where
   -- a session of an account with N units
-  runs : (n : ℕ) (account' : Book) (end : SessionEnd) → IsForm words (Session n) → IsSession left left' written written' (fresh n) account' end → status ≡ status_of end
-      → Controls words left left' written written' status
+  runs : (n : ℕ) → IsForm words (Session n) → Runs left left' written written' n status → Controls words left left' written written' status
   -- what a ledger holds
   checks : IsForm words Check → ChecksLedger left left' written written' status → Controls words left left' written written' status
   -- the words are of no form, and the usage line says so

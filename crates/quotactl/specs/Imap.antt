@@ -1,5 +1,5 @@
 -- IMAP as a protocol: what a whole request is, what is done for it, and what answers it.
-use Rattle.std.specs.Prelude.{ℕ, Bool, true, ◌==◌, nat_le, nat_lt, if◌then◌else◌, List, [], ◌∷◌, length, Option, Some, None, Result, Ok, Err}
+use Rattle.std.specs.Prelude.{ℕ, Bool, true, ◌==◌, nat_le, nat_lt, if◌then◌else◌, List, [], length, Option, Some, None, Result, Ok, Err}
 use Rattle.std.specs.List.{list_any}
 use Rattle.wire_io.specs.Work.{Work, ask, say}
 use Rattle.wire_io.specs.Protocol.{Protocol}
@@ -11,7 +11,7 @@ use Rattle.imap_grammar.specs.declared.command.Command.TheVariants.{GetQuota, Ge
 use Rattle.quota_units.specs.Limiting.{LimitNumbers}
 use Rattle.quota_roots.specs.declared.root.RootSpec.{RootSpec}
 use Rattle.quota_roots.specs.MailboxNames.{canonical}
-use Rattle.account_core.specs.Plain.{plain_root}
+use Rattle.accounts_file.specs.Hosts.{plain_roots}
 use Rattle.account_core.specs.declared.calls.Call.{Call}
 use Rattle.account_core.specs.declared.calls.Call.TheVariants.{Quota, SetLimits, Roots}
 use Rattle.account_core.specs.History.{Answer}
@@ -41,7 +41,7 @@ whole text = if list_any (λ b. b == 10) text then Some (line_request (command_i
 
 -- the roots of the session's account
 abbrev pub session_roots : List RootSpec
-session_roots = plain_root ∷ []
+session_roots = plain_roots
 
 -- more bytes than a name has
 abbrev pub is_too_long : List ℕ → Bool

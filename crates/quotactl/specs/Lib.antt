@@ -1,3 +1,5 @@
+pub mod Plain
+pub mod Held
 pub mod AskedLimits
 pub mod Texts
 pub mod Imap

@@ -1,18 +1,18 @@
 // The program over its words, its source and its sink.
-ghost use Rattle.std.specs.Prelude.{◌≡◌, ◌≢◌, ◌<◌, ◌≤◌, ◌++◌, ℕ, List, take, map, IfSome};
+ghost use Rattle.std.specs.Prelude.{◌≡◌, ◌≢◌, ◌<◌, ◌≤◌, ◌↔◌, ◌++◌, ℕ, List, take, map, IfSome};
 ghost use Rattle.std.specs.String.{string_bytes};
 ghost use Rattle.std.specs.Io.KnownBytes.{Appends};
 ghost use Rattle.wire_io.specs.Causes.{Rose};
 ghost use Rattle.quotactl.specs.Texts.{greeting};
 ghost use Rattle.quotactl.specs.Words.{IsForm, IsNoForm};
 ghost use Rattle.quotactl.specs.Checking.{Tells, max_checked};
-ghost use Rattle.quotactl.specs.Control.{RunsSession, Controls, status_of, usage_line, session_of};
+ghost use Rattle.quotactl.specs.Control.{Runs, Controls, status_of, usage_line, session_of};
 
 use crate::check::check;
 use crate::form::{Form, form_of};
+use crate::owner::Owner;
 use crate::session::run_session;
-use account_core::PlainAccount;
-use quota_units::Limits;
+use quota_units::{Limits, NoMemory};
 use std::alloc::Global;
 use wire_io::{Failed, SessionEnd, Sink, Source, send};
 
@@ -20,37 +20,42 @@ use wire_io::{Failed, SessionEnd, Sink, Source, send};
 const USAGE: &[u8] =
     b"usage: quotactl session N | imap [ACCOUNT] | jmap | policy | recalc ACCOUNT | check | workload N\n";
 
+/// The exit status where there is no memory.
+const NO_MEMORY: u8 = 6;
+
 /// The exit status of the program after a session.
 fn status(end: SessionEnd) -> u8
-    ensures { result ≡ status_of end }
+    ensures value { result ≡ status_of end }
+    ensures read { (result ≡ 4) ↔ (end ≡ SessionEnd.ReadFault) }
+    ensures write { (result ≡ 5) ↔ (end ≡ SessionEnd.WriteFault) }
 {
     match end {
         SessionEnd::Closed | SessionEnd::Stopped => 0,
         SessionEnd::Truncated { .. } => 3,
         SessionEnd::ReadFault => 4,
         SessionEnd::WriteFault => 5,
-        SessionEnd::NoMemory => 6,
+        SessionEnd::NoMemory => NO_MEMORY,
         SessionEnd::InputLimit => 11,
     }
 }
 
-/// Serves a session of an account with so many units of storage.
-fn run<S: Source, O: Sink>(alloc: Global, units: u64, source: &mut S, sink: &mut O) -> SessionEnd
+/// Serves a session of an account with so many units of storage, and gives the exit status.
+fn run<S: Source, O: Sink>(alloc: Global, units: u64, source: &mut S, sink: &mut O) -> u8
     requires some { 0 < units }
     requires bounded { units ≤ 8796093022207 }
-    ensures session { RunsSession (S.left source.old) (S.left source.new) (O.written sink.old) (O.written sink.new) units result }
-    ensures read_fault { result ≡ SessionEnd.ReadFault → Rose (S.faults source.old) (S.faults source.new) }
-    ensures read_kept { result ≢ SessionEnd.ReadFault → S.faults source.new ≡ S.faults source.old }
-    ensures write_fault { result ≡ SessionEnd.WriteFault → Rose (O.faults sink.old) (O.faults sink.new) }
-    ensures write_kept { result ≢ SessionEnd.WriteFault → O.faults sink.new ≡ O.faults sink.old }
+    ensures runs { Runs (S.left source.old) (S.left source.new) (O.written sink.old) (O.written sink.new) units result }
+    ensures read_fault { result ≡ 4 → Rose (S.faults source.old) (S.faults source.new) }
+    ensures read_kept { result ≢ 4 → S.faults source.new ≡ S.faults source.old }
+    ensures write_fault { result ≡ 5 → Rose (O.faults sink.old) (O.faults sink.new) }
+    ensures write_kept { result ≢ 5 → O.faults sink.new ≡ O.faults sink.old }
 {
     let Some(limits) = Limits::new(Some(1024 * units), None) else {
         unreachable!()
     };
-    let Ok(mut account) = PlainAccount::new(alloc, limits) else {
-        unreachable!()
-    };
-    run_session(alloc, &mut account, source, sink)
+    match Owner::open(alloc, limits) {
+        Ok(mut account) => status(run_session(alloc, &mut account, source, sink)),
+        Err(NoMemory) => NO_MEMORY,
+    }
 }
 
 /// Does what the words of `quotactl` say, over a source and a sink, and gives the exit status.
@@ -84,7 +89,7 @@ pub fn control<S: Source, O: Sink>(
         → (result ≡ 1) × Appends (O.written sink.old) (O.written sink.new) usage_line }
 {
     match form_of(words) {
-        Some(Form::Session { units }) => status(run(alloc, units, source, sink)),
+        Some(Form::Session { units }) => run(alloc, units, source, sink),
         Some(Form::Check) => check(alloc, source, sink),
         None => match send(sink, USAGE) {
             Ok(()) => 1,

@@ -5,6 +5,7 @@ mod asked;
 mod check;
 mod control;
 mod form;
+mod owner;
 mod session;
 mod texts;
 
@@ -41,3 +42,5 @@ fn main(rt: HostRuntime) -> ExitCode {
 
 #[cfg(test)]
 mod tests;
+#[cfg(test)]
+mod under_lock;

@@ -1,7 +1,7 @@
 // One session of IMAP for the owner of one account.
 ghost use Rattle.std.specs.Prelude.{◌≡◌, ◌≢◌, ◌≤◌, ◌⊎◌, ◌++◌, ℕ, [], ◌∷◌, length, ◌<◌, OnOk, OnErr, IfOk, IfSome};
 ghost use Rattle.wire_io.specs.Lines.{IsLine};
-ghost use Rattle.account_core.specs.Plain.{IsPlainCall};
+ghost use Rattle.quotactl.specs.Held.{IsAsked};
 ghost use Rattle.quotactl.specs.Imap.{max_text, imap};
 ghost use Rattle.wire_io.specs.Causes.{Rose};
 ghost use Rattle.wire_io.specs.Feeds.{source_of, source_name, waiting_of, taken_of, handed_of, limit_of};
@@ -11,10 +11,12 @@ ghost use Rattle.quotactl.specs.Texts.{tagged_line};
 ghost use Rattle.quotactl.specs.Serving.{input_limit, end_at, TakesRequest, ServesRequest, IsServed, IsSession, AnswersCall, LeavesCall, AnswersCommand, LeavesCommand, Answered, Abandoned};
 
 use crate::asked::limits_of;
+use crate::owner::Owner;
 use crate::texts::{
-    GREETING, NAME_TOO_LONG, NO_ROOT, NOT_BUILT, TOO_LONG, push_answer, push_logout, push_tagged,
+    GREETING, JOURNAL_FULL, NAME_TOO_LONG, NO_ROOT, NOT_BUILT, TOO_LONG, UNAVAILABLE, push_answer,
+    push_logout, push_tagged,
 };
-use account_core::{Call, PlainAccount, StepError};
+use account_core::{Call, StepError};
 use imap_grammar::{AskedLimit, Astring, Command, CommandFault, read_tagged};
 use quota_roots::canonical_spelling;
 use quota_units::{Name, NameError, NoMemory};
@@ -30,13 +32,13 @@ const INPUT_LIMIT: u64 = 1073741824;
 /// Asks the account, and appends what answers the command with this tag. The mailbox is that of GETQUOTAROOT.
 fn answer_call(
     alloc: Global,
-    account: &mut PlainAccount,
+    account: &mut Owner,
     call: Call,
     mailbox: &[u8],
     tag: &[u8],
     text: &mut Vec<u8>,
 ) -> Result<(), NoMemory>
-    requires plain { IsPlainCall call }
+    requires asked { IsAsked call }
     requires empty { text.old.items ≡ [] }
     ensures ok { OnOk result (AnswersCall account.old account.new call mailbox.now tag.now text.new.items) }
     ensures err { OnErr result (LeavesCall account.old account.new call) }
@@ -46,15 +48,8 @@ fn answer_call(
             Ok(()) => Ok(()),
             Err(_) => Err(NoMemory),
         },
-        Err(StepError::Store) => unreachable!(),
-        Err(StepError::JournalFull { .. }) => match push_tagged(
-            text,
-            tag,
-            b"NO [LIMIT] Journal full",
-        ) {
-            Ok(()) => Ok(()),
-            Err(_) => Err(NoMemory),
-        },
+        Err(StepError::Store) => answer_words(tag, UNAVAILABLE, text),
+        Err(StepError::JournalFull { .. }) => answer_words(tag, JOURNAL_FULL, text),
         Err(StepError::NoMemory) => Err(NoMemory),
     }
 }
@@ -73,7 +68,7 @@ fn answer_words(tag: &[u8], words: &[u8], text: &mut Vec<u8>) -> Result<(), NoMe
 /// Makes what answers GETQUOTA.
 fn answer_get_quota(
     alloc: Global,
-    account: &mut PlainAccount,
+    account: &mut Owner,
     root: Astring,
     tag: &[u8],
     text: &mut Vec<u8>,
@@ -91,7 +86,7 @@ fn answer_get_quota(
 /// Makes what answers GETQUOTAROOT.
 fn answer_get_quota_root(
     alloc: Global,
-    account: &mut PlainAccount,
+    account: &mut Owner,
     mailbox: &[u8],
     tag: &[u8],
     text: &mut Vec<u8>,
@@ -118,7 +113,7 @@ fn answer_get_quota_root(
 /// Makes what answers SETQUOTA.
 fn answer_set_quota(
     alloc: Global,
-    account: &mut PlainAccount,
+    account: &mut Owner,
     root: Astring,
     limits: &[AskedLimit],
     tag: &[u8],
@@ -147,7 +142,7 @@ fn answer_set_quota(
 /// Makes what answers a line, with the calls that it asks for, and says what the session does after it.
 fn answer_line(
     alloc: Global,
-    account: &mut PlainAccount,
+    account: &mut Owner,
     line: &[u8],
     text: &mut Vec<u8>,
 ) -> Result<After, NoMemory>
@@ -179,7 +174,7 @@ fn answer_line(
 /// Makes what answers a command with this tag.
 fn answer_command(
     alloc: Global,
-    account: &mut PlainAccount,
+    account: &mut Owner,
     command: Command,
     tag: &[u8],
     text: &mut Vec<u8>,
@@ -230,7 +225,7 @@ fn end_of(end: FeedEnd, at: u64, come: usize) -> SessionEnd
 /// Takes one request from the feed and makes what answers it, or says how the session ends before.
 fn take_request<S: Source>(
     alloc: Global,
-    account: &mut PlainAccount,
+    account: &mut Owner,
     feed: &mut Feed<'_, S>,
     line: &mut Vec<u8>,
     text: &mut Vec<u8>,
@@ -265,7 +260,7 @@ fn take_request<S: Source>(
 /// Serves one request, or says how the session ends in it.
 fn serve_request<S: Source, O: Sink>(
     alloc: Global,
-    account: &mut PlainAccount,
+    account: &mut Owner,
     feed: &mut Feed<'_, S>,
     sink: &mut O,
     line: &mut Vec<u8>,
@@ -298,7 +293,7 @@ fn serve_request<S: Source, O: Sink>(
 /// Serves request after request to the session's end.
 fn serve_all<S: Source, O: Sink>(
     alloc: Global,
-    account: &mut PlainAccount,
+    account: &mut Owner,
     feed: &mut Feed<'_, S>,
     sink: &mut O,
 ) -> SessionEnd
@@ -330,7 +325,7 @@ fn serve_all<S: Source, O: Sink>(
 /// At most 1073741824 bytes are taken.
 pub fn run_session<S: Source, O: Sink>(
     alloc: Global,
-    account: &mut PlainAccount,
+    account: &mut Owner,
     source: &mut S,
     sink: &mut O,
 ) -> SessionEnd

@@ -6,7 +6,8 @@ ghost use Rattle.quotactl.specs.Imap.{session_roots};
 ghost use Rattle.quotactl.specs.Texts.{resource, storage, message, resources, quota_line, root_line, root_behind, quota_root_line, tagged_line, answer_text, logout_text};
 ghost use Rattle.account_core.specs.History.{replied, journal_full, store};
 
-use account_core::{PlainAccount, Reply, RootRow};
+use crate::owner::Owner;
+use account_core::{Reply, RootRow};
 use imap_grammar::push_astring;
 use itoa::Buffer;
 use quota_units::units_up;
@@ -26,6 +27,12 @@ pub const NO_ROOT: &[u8] = b"NO No such quota root";
 
 /// What answers GETQUOTAROOT of a mailbox of more than 255 bytes.
 pub const NAME_TOO_LONG: &[u8] = b"NO Name too long";
+
+/// What answers a command whose call the store failed. The store of a session's account never fails.
+pub const UNAVAILABLE: &[u8] = b"NO [UNAVAILABLE] Store unavailable";
+
+/// What answers a command where the account's history is full.
+pub const JOURNAL_FULL: &[u8] = b"NO [LIMIT] Journal full";
 
 fn push_number(out: &mut Vec<u8>, number: u64) -> Result<(), AllocError>
     ensures { OnOk result (out.new.items ≡ out.old.items ++ decimal number) }
@@ -94,22 +101,14 @@ fn push_quota_line(out: &mut Vec<u8>, name: &[u8], row: &RootRow) -> Result<(), 
 }
 
 /// The untagged line of a root of the account.
-fn push_root_line(
-    out: &mut Vec<u8>,
-    account: &PlainAccount,
-    row: &RootRow,
-) -> Result<(), AllocError>
+fn push_root_line(out: &mut Vec<u8>, account: &Owner, row: &RootRow) -> Result<(), AllocError>
     ensures { OnOk result (out.new.items ≡ out.old.items ++ root_line session_roots row.now) }
 {
     push_quota_line(out, account.root_name(row.root), row)
 }
 
 /// A space and the name of a root of the account.
-fn push_root_behind(
-    out: &mut Vec<u8>,
-    account: &PlainAccount,
-    row: &RootRow,
-) -> Result<(), AllocError>
+fn push_root_behind(out: &mut Vec<u8>, account: &Owner, row: &RootRow) -> Result<(), AllocError>
     ensures { OnOk result (out.new.items ≡ out.old.items ++ root_behind session_roots row.now) }
 {
     out.extend_from_slice(b" ")?;
@@ -118,11 +117,7 @@ fn push_root_behind(
 
 /// The untagged lines of these roots.
 #[tactic(auto, using(crate::proofs::Rows::rows_none, crate::proofs::Rows::rows_more, crate::proofs::Rows::rows_all))]
-fn push_root_lines(
-    out: &mut Vec<u8>,
-    account: &PlainAccount,
-    rows: &[RootRow],
-) -> Result<(), AllocError>
+fn push_root_lines(out: &mut Vec<u8>, account: &Owner, rows: &[RootRow]) -> Result<(), AllocError>
     ensures { OnOk result (out.new.items ≡ out.old.items ++ flat_map (root_line session_roots) rows.now) }
 {
     for (i, row) in rows.iter().enumerate() {
@@ -133,11 +128,7 @@ fn push_root_lines(
 
 /// The names of these roots, each behind a space.
 #[tactic(auto, using(crate::proofs::Rows::rows_none, crate::proofs::Rows::rows_more, crate::proofs::Rows::rows_all))]
-fn push_root_names(
-    out: &mut Vec<u8>,
-    account: &PlainAccount,
-    rows: &[RootRow],
-) -> Result<(), AllocError>
+fn push_root_names(out: &mut Vec<u8>, account: &Owner, rows: &[RootRow]) -> Result<(), AllocError>
     ensures { OnOk result (out.new.items ≡ out.old.items ++ flat_map (root_behind session_roots) rows.now) }
 {
     for (i, row) in rows.iter().enumerate() {
@@ -149,7 +140,7 @@ fn push_root_names(
 /// The untagged line of a mailbox and the roots that govern it.
 fn push_quota_root_line(
     out: &mut Vec<u8>,
-    account: &PlainAccount,
+    account: &Owner,
     mailbox: &[u8],
     rows: &[RootRow],
 ) -> Result<(), AllocError>
@@ -164,7 +155,7 @@ fn push_quota_root_line(
 /// What answers a command, where the machine replied to its call. The mailbox is that of GETQUOTAROOT.
 pub fn push_answer(
     out: &mut Vec<u8>,
-    account: &PlainAccount,
+    account: &Owner,
     mailbox: &[u8],
     tag: &[u8],
     reply: &Reply,

@@ -1,6 +1,4 @@
-use Rattle.std.proofs.Common.{◌++◌, sym, ap, ◌∙◌, refl, Some, Err, Ok}
-use Rattle.std.specs.Result.{result_err}
-use Rattle.maildirsize.specs.Reading.{fault_of}
+use Rattle.std.proofs.Common.{◌++◌, sym, ap, ◌∙◌, refl}
 use Rattle.quotactl.specs.Checking.{values, fault, values_text, fault_text}
 use Rattle.quotactl.proofs.check.told.Goals as goal
 

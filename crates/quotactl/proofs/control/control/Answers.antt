@@ -13,14 +13,14 @@ use Rattle.quotactl.proofs.control.control.Goals as goal
 pub returns-in-Some-Session-clause-controls : goal.returns-in-Some-Session-clause-controls
 returns-in-Some-Session-clause-controls g c =
     let form = subst (λ (f : Form). IsForm (map string_bytes c.args.words.now) f) c.in-Some-Session.field-0-is c.in-Some-Session.ensures.some in
-    runs c.in-Some-Session.units c.run.ensures.session.0 c.run.result form c.run.ensures.session.1 c.status.ensures
+    runs c.in-Some-Session.units form c.run.ensures.runs
 
 pub returns-in-Some-Session-clause-output : goal.returns-in-Some-Session-clause-output
 returns-in-Some-Session-clause-output g c = λ n form.
     let own = subst (λ (f : Form). IsForm (map string_bytes c.args.words.now) f) c.in-Some-Session.field-0-is c.in-Some-Session.ensures.some in
     control_output (map string_bytes c.args.words.now) (g.S.Source.left c.args.source.now) (g.S.Source.left c.run.new.source) (g.O.Sink.written c.args.sink.now) (g.O.Sink.written c.run.new.sink)
-    c.in-Some-Session.units n c.run.result c.status.result (Rose (g.S.Source.faults c.args.source.now) (g.S.Source.faults c.run.new.source)) (Rose (g.O.Sink.faults c.args.sink.now) (g.O.Sink.faults c.run.new.sink))
-    own form c.run.ensures.session c.status.ensures c.run.ensures.read_fault c.run.ensures.write_fault
+    c.in-Some-Session.units n c.run.result (Rose (g.S.Source.faults c.args.source.now) (g.S.Source.faults c.run.new.source)) (Rose (g.O.Sink.faults c.args.sink.now) (g.O.Sink.faults c.run.new.sink))
+    own form c.run.ensures.runs c.run.ensures.read_fault c.run.ensures.write_fault
 
 pub returns-in-Ok-clause-controls : goal.returns-in-Ok-clause-controls
 returns-in-Ok-clause-controls g c = refuses c.in-None.ensures.none (Keeps-refl (g.S.Source.left c.args.source.now)) c.in-Ok.ensures.sent refl

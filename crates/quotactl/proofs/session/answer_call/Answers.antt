@@ -1,9 +1,9 @@
 use Rattle.std.proofs.Common.{◌++◌, ap, ◌∙◌, subst, Err}
-use Rattle.account_core.specs.History.{replied, journal_full, Serves}
+use Rattle.account_core.specs.History.{replied, Serves}
 use Rattle.account_core.specs.declared.calls.StepError.TheVariants.{JournalFull}
 use Rattle.quotactl.specs.Imap.{session_roots}
 use Rattle.quotactl.specs.Texts.{answer_text}
-use Rattle.quotactl.proofs.Owning.{owns_call, leaves_called, replied_never, full_never}
+use Rattle.quotactl.proofs.Owning.{owns_call, leaves_called, replied_never, full_told}
 use Rattle.quotactl.proofs.session.answer_call.Goals as goal
 
 pub returns-in-Ok-push_answer-clause-ok : goal.returns-in-Ok-push_answer-clause-ok
@@ -20,13 +20,10 @@ returns-in-Ok-clause-err c =
     leaves_called c.args.account.now c.serve.new.self c.args.call answer
     (owns_call c.args.account.now c.serve.new.self c.args.call answer c.in-Ok.ensures.opened c.in-Ok.ensures.serves (replied_never c.in-Ok.reply))
 
-pub returns-in-Ok-push_tagged-clause-ok : goal.returns-in-Ok-push_tagged-clause-ok
-returns-in-Ok-push_tagged-clause-ok c =
-    let answer = journal_full in
+pub returns-in-Err-JournalFull-clause-ok : goal.returns-in-Err-JournalFull-clause-ok
+returns-in-Err-JournalFull-clause-ok c =
     let account = c.args.account.now in
     let full : Serves account.opened 0 account.history c.args.call (Err (JournalFull c.in-Err-JournalFull.field-0-0)) c.serve.new.self.history =
-    subst (λ e. Serves account.opened 0 account.history c.args.call (Err e) c.serve.new.self.history) c.in-Err-JournalFull.field-0-is c.in-Err-JournalFull.ensures.serves in (
-      answer,
-      c.in-Ok-push_tagged.ensures ∙ ap (λ l. l ++ answer_text session_roots c.args.mailbox.now c.args.tag.now answer) c.requires.empty,
-      owns_call c.args.account.now c.serve.new.self c.args.call answer c.in-Err-JournalFull.ensures.opened full.1 full_never,
-    )
+    subst (λ e. Serves account.opened 0 account.history c.args.call (Err e) c.serve.new.self.history) c.in-Err-JournalFull.field-0-is c.in-Err-JournalFull.ensures.serves in
+    full_told account c.serve.new.self c.args.call c.args.mailbox.now c.args.tag.now c.answer_words-in-Err-JournalFull.new.text.items c.answer_words-in-Err-JournalFull.result
+    c.in-Err-JournalFull.ensures.opened full.1 c.answer_words-in-Err-JournalFull.ensures
