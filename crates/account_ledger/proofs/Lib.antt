@@ -5,11 +5,13 @@ pub mod LineLemmas
 pub mod Sums
 pub mod Weighing
 pub mod UsageLemmas
+pub mod CountingLemmas
 pub mod Keeping
 pub mod Posting
 pub mod Shifting
 pub mod Bases
 pub mod Replying
+pub mod Questioning
 pub mod Stating
 pub mod Answering
 pub mod Entering

@@ -3,12 +3,14 @@
 
 mod book;
 mod change;
+mod counting;
 mod counts;
 mod deliver;
 mod fault;
 mod limits;
 mod lines;
 mod open;
+mod questions;
 mod rows;
 mod scan;
 mod settle;

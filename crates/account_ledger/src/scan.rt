@@ -36,7 +36,7 @@ fn size_of_file(file: &FileRow) -> u64
 }
 
 /// What the files add up to.
-fn totals_of(files: &[FileRow]) -> Totals
+pub(crate) fn totals_of(files: &[FileRow]) -> Totals
     ensures value { result ≡ cut_totals (sizes_of files.now) (length files.now) }
     ensures small { AreSmall result }
 {
