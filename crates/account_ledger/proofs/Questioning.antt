@@ -1,25 +1,23 @@
 -- Questions on mailboxes: what a listing tells, and what is replied.
-use Rattle.std.proofs.Common.{◌≡◌, ◌<◌, ◌≤◌, ◌^◌, ℕ, Bool, true, false, cond, List, [], length, map, sum_by, bytes_eq, Option, Some, None, refl, sym, ap, ◌∙◌, subst, arith}
+use Rattle.std.proofs.Common.{◌≡◌, ◌<◌, ◌≤◌, ◌^◌, ℕ, Bool, true, false, cond, List, [], length, sum_by, bytes_eq, Option, Some, None, sym, ap, ◌∙◌, subst, arith}
 use Rattle.std.specs.Prelude.{Result, Ok, Err, IfOk, IfSome, Vec}
 use Rattle.std.specs.List.{slice_get}
 use Rattle.std.specs.Option.{option_map}
-use Rattle.std.proofs.lemmas.Option.{slice_get-get_or, slice_get_past}
+use Rattle.std.proofs.lemmas.Option.{slice_get-get_or}
 use Rattle.std.proofs.lemmas.List.Sums.{sum_by-le-sum_by}
 use Rattle.quota_units.specs.Limiting.{LimitNumbers}
 use Rattle.quota_units.specs.declared.totals.Totals.{Totals}
-use Rattle.quota_roots.specs.declared.root.RootSpec.{RootSpec}
 use Rattle.quota_roots.specs.declared.setup.Setup.{Setup}
-use Rattle.quota_roots.specs.Governing.{governing}
 use Rattle.keeper.specs.Files.{Files, listed}
 use Rattle.keeper.specs.Calls.{Told, Changes, Lists}
 use Rattle.keeper.specs.declared.rows.FileRow.{FileRow}
 use Rattle.account_core.specs.Account.{Account, Message}
 use Rattle.account_core.specs.Messages.{sum_in}
-use Rattle.account_core.specs.Scanning.{status_of, status_reply, begun_reply, part_of, part_reply}
+use Rattle.account_core.specs.Scanning.{status_of, status_reply, part_of, part_reply}
 use Rattle.account_core.specs.Refusals.{has_mailbox}
 use Rattle.account_core.specs.History.{replay}
 use Rattle.account_core.specs.declared.calls.Entry.{Entry}
-use Rattle.account_core.specs.declared.calls.Reply.TheVariants.{NoMailbox, Status, Begun, NoPart, Part}
+use Rattle.account_core.specs.declared.calls.Reply.TheVariants.{NoMailbox, Status, Part}
 use Rattle.account_ledger.specs.declared.counts.Counts.{Counts}
 use Rattle.account_ledger.specs.declared.book.Book.{Book}
 use Rattle.account_ledger.specs.declared.counting.MailboxSums.{MailboxSums}
@@ -28,10 +26,8 @@ use Rattle.account_ledger.specs.Messages.{message_in}
 use Rattle.account_ledger.specs.Opening.{opening_account, opening_of}
 use Rattle.account_ledger.specs.Order.{Holds, InOrder}
 use Rattle.account_ledger.specs.Scans.{cut, cut_totals, sizes_of}
-use Rattle.account_ledger.specs.Settling.{OnFiles}
-use Rattle.account_ledger.proofs.Changing.{changes_then, changes_weaken}
 use Rattle.account_ledger.proofs.CountingLemmas.{listed_tell}
-use Rattle.account_ledger.proofs.Replying.{of_both, of_weaker}
+use Rattle.account_ledger.proofs.Replying.{of_both}
 use Rattle.account_ledger.proofs.Sums.{sum_ones}
 use Rattle.account_ledger.proofs.Weighing.{is_mailbox_of}
 
