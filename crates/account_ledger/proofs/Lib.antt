@@ -6,11 +6,13 @@ pub mod Sums
 pub mod Weighing
 pub mod NamedFiles
 pub mod UsageLemmas
+pub mod CountingLemmas
 pub mod Keeping
 pub mod Posting
 pub mod Shifting
 pub mod Bases
 pub mod Replying
+pub mod Questioning
 pub mod Stating
 pub mod Answering
 pub mod Entering

@@ -22,7 +22,7 @@ abbrev pub weigh : (Message → ℕ) → List (List ℕ) → Row → ℕ
 weigh weight mailboxes row = cond (is_mailbox_of mailboxes row.mailbox) (weight (told_by row)) 0
 
 module _ (weight : Message → ℕ) where
-  in_one : (mailbox : List ℕ) (rows : List Row) → sum_by weight (messages_of rows mailbox) ≡ sum_by (λ (row : Row). cond (is_in mailbox row) (weight (message_in mailbox (file_of row))) 0) rows
+  pub in_one : (mailbox : List ℕ) (rows : List Row) → sum_by weight (messages_of rows mailbox) ≡ sum_by (λ (row : Row). cond (is_in mailbox row) (weight (message_in mailbox (file_of row))) 0) rows
   in_one mailbox [] = refl
   in_one mailbox (row ∷ rows) =
       step (is_in mailbox row) (in_one mailbox rows)

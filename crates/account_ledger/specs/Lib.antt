@@ -11,3 +11,5 @@ pub mod Rows
 pub mod Order
 pub mod Faults
 pub mod Serving
+pub mod Counting
+pub mod Questions

@@ -22,7 +22,7 @@ use Rattle.account_core.specs.History.{entry_of}
 use Rattle.keeper.specs.Files.{Files, Row, listed, removed, renamed, ledger_at}
 use Rattle.keeper.specs.declared.rows.FileRow.{FileRow}
 use Rattle.keeper.specs.Calls.{Changes, Writes}
-use Rattle.keeper.specs.Causes.{Rose}
+use Rattle.keeper.specs.Causes.{Rose, next_count}
 use Rattle.account_core.specs.Account.{Account}
 use Rattle.account_ledger.specs.declared.book.Standing.{Standing}
 use Rattle.account_ledger.specs.declared.book.Standing.TheVariants.{Settled, Doubt}
@@ -97,9 +97,9 @@ IsServed (Roots mailbox) = Unit {0}
 IsServed (Remove mailbox base) = Unit {0}
 IsServed (Mark mailbox base flags) = Unit {0}
 IsServed (Move from base to) = Unit {0}
-IsServed (Status mailbox) = ⊥
-IsServed ScanBegin = ⊥
-IsServed (ScanPart index) = ⊥
+IsServed (Status mailbox) = Unit {0}
+IsServed ScanBegin = Unit {0}
+IsServed (ScanPart index) = Unit {0}
 IsServed (Install generation) = ⊥
 
 -- the calls that are served, which leave the account
@@ -112,9 +112,9 @@ IsQuestion (Roots mailbox) = Unit {0}
 IsQuestion (Remove mailbox base) = ⊥
 IsQuestion (Mark mailbox base flags) = ⊥
 IsQuestion (Move from base to) = ⊥
-IsQuestion (Status mailbox) = ⊥
-IsQuestion ScanBegin = ⊥
-IsQuestion (ScanPart index) = ⊥
+IsQuestion (Status mailbox) = Unit {0}
+IsQuestion ScanBegin = Unit {0}
+IsQuestion (ScanPart index) = Unit {0}
 IsQuestion (Install generation) = ⊥
 
 -- how the history changes by a call's result: an entry without fault, one with fault, or none
@@ -123,6 +123,21 @@ Enters caller call (Ok given) history history' = history' ≡ history ++ entry_o
 Enters caller call (Err Store) history history' = history' ≡ history ++ entry_of caller call true ∷ []
 Enters caller call (Err (JournalFull limit)) history history' = history' ≡ history
 Enters caller call (Err NoMemory) history history' = history' ≡ history
+
+-- how often a call lists mailboxes, by the keeper's count: the begin of a scan never, and a part of one once at most
+abbrev pub ListsFor : Call → ℕ → ℕ → Type 0
+ListsFor ScanBegin lists lists' = lists' ≡ lists
+ListsFor (ScanPart index) lists lists' = (lists' ≡ lists) ⊎ (lists' ≡ next_count lists)
+ListsFor (Deliver mailbox octets flags) lists lists' = Unit {0}
+ListsFor (Check octets) lists lists' = Unit {0}
+ListsFor (Quota name) lists lists' = Unit {0}
+ListsFor (SetLimits name limits) lists lists' = Unit {0}
+ListsFor (Roots mailbox) lists lists' = Unit {0}
+ListsFor (Remove mailbox base) lists lists' = Unit {0}
+ListsFor (Mark mailbox base flags) lists lists' = Unit {0}
+ListsFor (Move from base to) lists lists' = Unit {0}
+ListsFor (Status mailbox) lists lists' = Unit {0}
+ListsFor (Install generation) lists lists' = Unit {0}
 
 -- an entry of the call leaves the account
 abbrev pub Leaves : List RootSpec → Call → Bool → Account → Type 0

@@ -4,6 +4,7 @@
 mod book;
 mod booked;
 mod change;
+mod counting;
 mod counts;
 mod deliver;
 mod fault;
@@ -13,6 +14,7 @@ mod marks;
 mod moves;
 mod named;
 mod open;
+mod questions;
 mod remove;
 mod rows;
 mod scan;

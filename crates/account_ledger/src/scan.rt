@@ -37,7 +37,7 @@ pub(crate) fn size_of_file(file: &FileRow) -> u64
 }
 
 /// What the files add up to.
-fn totals_of(files: &[FileRow]) -> Totals
+pub(crate) fn totals_of(files: &[FileRow]) -> Totals
     ensures value { result ≡ cut_totals (sizes_of files.now) (length files.now) }
     ensures small { AreSmall result }
 {

@@ -7,7 +7,7 @@ ghost use Rattle.account_core.specs.Machine.{governing_rows, over_in, reply_of};
 ghost use Rattle.account_ledger.specs.Rows.{IsVerdict};
 ghost use Rattle.keeper.specs.Causes.{HasCause, Rose};
 ghost use Rattle.account_ledger.specs.Order.{IsInOrder};
-ghost use Rattle.account_ledger.specs.Serving.{Opened, OfAccount, SettlesSome, Enters, HasBytes, IsQuestion, IsServed, Leaves, Serves, ServesLedgers, ServesRows, is_place, misses, needs};
+ghost use Rattle.account_ledger.specs.Serving.{Opened, OfAccount, SettlesSome, Enters, HasBytes, IsQuestion, IsServed, Leaves, ListsFor, Serves, ServesLedgers, ServesRows, is_place, misses, needs};
 ghost use Rattle.account_core.specs.Legality.{MayBeServed, fault_count};
 ghost use Rattle.account_core.specs.History.{entry_of};
 ghost use Rattle.keeper.specs.Calls.{Changes};
@@ -152,8 +152,9 @@ impl<K: Keeper> AccountState<K> {
         self.books[root as usize].standing
     }
 
-    /// Serves a call of this caller: a delivery, a check, a change of limits, or a question on the quota of a root or on the
-    /// roots of a mailbox.
+    /// Serves a call of this caller: a delivery, a check, a change of limits, a question on the quota of a root, on the roots of
+    /// a mailbox or on its status, the begin of a scan, or a part of one. The begin of a scan lists no mailbox, and a part lists
+    /// its own alone.
     ///
     /// `bytes` are the octets of a delivered message, at most 67108864, and empty for the other calls.
     ///
@@ -181,6 +182,7 @@ impl<K: Keeper> AccountState<K> {
         ensures ledgers { ServesLedgers call result self.old self.new }
         ensures rows { Changes (OnFiles (λ files files'. ServesRows self.old.epoch call bytes.now result files.rows files'.rows)) self.old.told self.new.told }
         ensures cause { result ≡ Err StepError.Store → Rose self.old.faults self.new.faults }
+        ensures lists { ListsFor call self.old.lists self.new.lists }
         ensures full { (limit : ℕ) → (result ≡ Err (StepError.JournalFull limit)) ↔ ((length self.old.history ≡ self.old.setup.journal) × (limit ≡ self.old.setup.journal)) }
         ensures unchanged { (limit : ℕ) → result ≡ Err (StepError.JournalFull limit) → self.new ≡ self.old }
         ensures order { IsInOrder self.new }
@@ -210,6 +212,7 @@ impl<K: Keeper> AccountState<K> {
         requires room { length self.old.history < self.old.setup.journal }
         requires held { length self.old.history < self.old.reserved }
         ensures serves { Serves caller call bytes.now result self.old self.new }
+        ensures lists { ListsFor call self.old.lists self.new.lists }
         ensures never_full { (limit : ℕ) → result ≢ Err (StepError.JournalFull limit) }
     {
         match call {
@@ -243,6 +246,7 @@ impl<K: Keeper> AccountState<K> {
         requires room { length self.old.history < self.old.setup.journal }
         requires held { length self.old.history < self.old.reserved }
         ensures serves { Serves caller call bytes.now result self.old self.new }
+        ensures lists { ListsFor call self.old.lists self.new.lists }
         ensures never_full { (limit : ℕ) → result ≢ Err (StepError.JournalFull limit) }
     {
         self.is_in_order();
@@ -308,6 +312,7 @@ impl<K: Keeper> AccountState<K> {
         ensures settled { OnOk result ((root : ℕ) → needs self.old.setup.roots call.now root ≡ true → standing_at self.new.standings root ≡ Settled) }
         ensures settles { SettlesSome (needs self.old.setup.roots call.now) self.old self.new }
         ensures missed { IfOk result (λ given. misses given ≡ true → (root : ℕ) → needs self.old.setup.roots call.now root ≡ false) }
+        ensures lists { ListsFor call.now self.old.lists self.new.lists }
         ensures cause { HasCause (result ≡ Err StepError.Store) self.old.faults self.new.faults }
         ensures never_full { (limit : ℕ) → result ≢ Err (StepError.JournalFull limit) }
     {
@@ -315,14 +320,14 @@ impl<K: Keeper> AccountState<K> {
             Call::Quota { root } => self.quota(alloc, root.as_slice()),
             Call::Roots { mailbox } => self.roots(alloc, mailbox.as_slice()),
             Call::Check { octets } => self.check(alloc, *octets),
+            Call::Status { mailbox } => self.status(alloc, mailbox.as_slice()),
+            Call::ScanBegin => self.scan_begin(alloc),
+            Call::ScanPart { index } => self.scan_part(alloc, *index),
             Call::Deliver { .. }
             | Call::SetLimits { .. }
             | Call::Remove { .. }
             | Call::Mark { .. }
             | Call::Move { .. }
-            | Call::Status { .. }
-            | Call::ScanBegin
-            | Call::ScanPart { .. }
             | Call::Install { .. } => unreachable!(),
         }
     }
