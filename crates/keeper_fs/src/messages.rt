@@ -1,0 +1,155 @@
+use crate::errors::{cause, fault};
+use crate::folders::{Mailbox, path_in};
+use crate::names::file_name;
+use crate::writing::place;
+use keeper::{Bytes, FileRow, KeepError};
+use message_names::parse_name;
+use std::alloc::Global;
+use std::fs;
+use std::fs::{DirEntry, Files};
+use std::io;
+use std::io::ErrorKind;
+
+/// A message file's path where it stands in `new`, and where it stands in `cur`.
+#[derive(Drop)]
+struct Places {
+    new: String,
+    cur: String,
+}
+
+impl Places {
+    fn of(alloc: Global, mailbox: &Mailbox, name: &str) -> Result<Places, KeepError> {
+        Ok(Places {
+            new: path_in(alloc, &mailbox.new, name)?,
+            cur: path_in(alloc, &mailbox.cur, name)?,
+        })
+    }
+
+    /// Where a file of this name is put: in `cur` if the name has an info part of flags, and else in `new`.
+    fn home(&self, name: &str) -> &str {
+        if name.contains(":2,") {
+            self.cur.as_str()
+        } else {
+            self.new.as_str()
+        }
+    }
+
+    /// Fails where a file stands in one of the places.
+    fn require_free<R: Files>(&self, rt: &R) -> io::Result<()> {
+        require_none(rt, self.new.as_str())?;
+        require_none(rt, self.cur.as_str())
+    }
+}
+
+/// Fails where a file has this path.
+fn require_none<R: Files>(rt: &R, path: &str) -> io::Result<()> {
+    match fs::symlink_metadata(rt, path) {
+        Ok(_) => Err(io::Error::from(ErrorKind::AlreadyExists)),
+        Err(error) if error.kind() == ErrorKind::NotFound => Ok(()),
+        Err(error) => Err(error),
+    }
+}
+
+/// The message files of a mailbox: those in `new`, then those in `cur`. A folder that is not there has none.
+pub(crate) fn list<R: Files + AllocGlobal + Clone + Drop>(
+    rt: &R,
+    alloc: Global,
+    account: &str,
+    mailbox: &[u8],
+) -> Result<Vec<FileRow>, KeepError> {
+    let folders = Mailbox::of(alloc, account, mailbox)?;
+    let mut rows = Vec::new(alloc);
+    add_rows(rt, alloc, folders.new.as_str(), &mut rows)?;
+    add_rows(rt, alloc, folders.cur.as_str(), &mut rows)?;
+    Ok(rows)
+}
+
+/// Adds the files of a folder, in the order in which the system names them; names that begin with `.` are left out.
+fn add_rows<R: Files + AllocGlobal + Clone + Drop>(
+    rt: &R,
+    alloc: Global,
+    folder: &str,
+    rows: &mut Vec<FileRow>,
+) -> Result<(), KeepError> {
+    let entries = match fs::read_dir(rt, folder) {
+        Ok(entries) => entries,
+        Err(error) if error.kind() == ErrorKind::NotFound => return Ok(()),
+        Err(error) => return Err(cause(error)),
+    };
+    for entry in entries {
+        let entry = entry.map_err(cause)?;
+        if !entry.file_name().starts_with('.') {
+            rows.push(row_of(rt, alloc, &entry)?)?;
+        }
+    }
+    Ok(())
+}
+
+/// The row of a file. Its length is the size that its name states; where it states none, the file is asked.
+fn row_of<R: Files>(rt: &R, alloc: Global, entry: &DirEntry<R>) -> Result<FileRow, KeepError> {
+    let name = entry.file_name().as_bytes();
+    let length = match parse_name(name).size {
+        Some(size) => size,
+        None => fs::metadata(rt, entry.path()).map_err(cause)?.len(),
+    };
+    Ok(FileRow {
+        name: Bytes::new(name.to_vec(alloc)?),
+        length,
+    })
+}
+
+/// Adds a message file to a mailbox, and makes what is missing of its folders.
+pub(crate) fn put<R: Files>(
+    rt: &R,
+    alloc: Global,
+    account: &str,
+    mailbox: &[u8],
+    name: &[u8],
+    octets: &[u8],
+) -> Result<(), KeepError> {
+    let folders = Mailbox::of(alloc, account, mailbox)?;
+    let name = file_name(name)?;
+    let draft = path_in(alloc, &folders.tmp, name)?;
+    let places = Places::of(alloc, &folders, name)?;
+    folders.make(rt).map_err(fault)?;
+    places.require_free(rt).map_err(fault)?;
+    place(rt, draft.as_str(), places.home(name), octets).map_err(fault)
+}
+
+/// Gives a message file another mailbox and name, and makes what is missing of that mailbox's folders.
+pub(crate) fn rename<R: Files>(
+    rt: &R,
+    alloc: Global,
+    account: &str,
+    from: (&[u8], &[u8]),
+    to: (&[u8], &[u8]),
+) -> Result<(), KeepError> {
+    let old = Places::of(alloc, &Mailbox::of(alloc, account, from.0)?, file_name(from.1)?)?;
+    let folders = Mailbox::of(alloc, account, to.0)?;
+    let name = file_name(to.1)?;
+    let new = Places::of(alloc, &folders, name)?;
+    folders.make(rt).map_err(fault)?;
+    new.require_free(rt).map_err(fault)?;
+    let target = new.home(name);
+    match fs::rename(rt, old.new.as_str(), target) {
+        Err(error) if error.kind() == ErrorKind::NotFound => fs::rename(rt, old.cur.as_str(), target),
+        renamed => renamed,
+    }
+    .map_err(fault)
+}
+
+/// Removes a message file.
+pub(crate) fn remove<R: Files>(
+    rt: &R,
+    alloc: Global,
+    account: &str,
+    mailbox: &[u8],
+    name: &[u8],
+) -> Result<(), KeepError> {
+    let places = Places::of(alloc, &Mailbox::of(alloc, account, mailbox)?, file_name(name)?)?;
+    match fs::remove_file(rt, places.new.as_str()) {
+        Err(error) if error.kind() == ErrorKind::NotFound => fs::remove_file(rt, places.cur.as_str()),
+        removed => removed,
+    }
+    .map_err(fault)
+}
