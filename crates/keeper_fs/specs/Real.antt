@@ -1,7 +1,7 @@
 -- Keepers and stores over folders: their counts, which is all that they tell.
 use Rattle.std.specs.Prelude.{ℕ}
-use Rattle.keeper_fs.specs.declared.keeper.FsKeeper.{FsKeeper}
-use Rattle.keeper_fs.specs.declared.stores.FsStores.{FsStores}
+use Rattle.keeper_fs.specs.declared.fs_keeper.FsKeeper.{FsKeeper}
+use Rattle.keeper_fs.specs.declared.fs_stores.FsStores.{FsStores}
 
 -- how often a call of a keeper other than an append has failed
 abbrev pub faults_of : {R : Type 0} → FsKeeper R → ℕ

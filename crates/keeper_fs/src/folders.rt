@@ -1,11 +1,9 @@
-use crate::names::file_name;
-use keeper::KeepError;
 use std::alloc::{AllocError, Global};
 use std::fs;
+use std::fs::Files;
 use std::io;
-use std::rt::Files;
 
-/// The three folders of a mailbox (Maildir): files are written in `tmp`, and those in `new` and `cur` are messages.
+/// The three folders of a mailbox (Maildir): a file is written in `tmp`, and is a message once it stands in `new` or `cur`.
 #[derive(Drop)]
 pub(crate) struct Mailbox {
     pub(crate) tmp: String,
@@ -16,17 +14,15 @@ pub(crate) struct Mailbox {
 impl Mailbox {
     /// The folders of a mailbox of the account in this folder: those of INBOX stand in it, and those of another mailbox in
     /// its folder `.<mailbox>` (Maildir++).
-    pub(crate) fn of(alloc: Global, account: &str, mailbox: &[u8]) -> Result<Mailbox, KeepError> {
-        let name = file_name(mailbox)?;
-        if name == "INBOX" {
-            Ok(Mailbox::inbox(alloc, account)?)
-        } else {
-            Ok(Mailbox {
-                tmp: format!(in alloc; "{account}/.{name}/tmp")?,
-                new: format!(in alloc; "{account}/.{name}/new")?,
-                cur: format!(in alloc; "{account}/.{name}/cur")?,
-            })
+    pub(crate) fn of(alloc: Global, account: &str, mailbox: &str) -> Result<Mailbox, AllocError> {
+        if mailbox == "INBOX" {
+            return Mailbox::inbox(alloc, account);
         }
+        Ok(Mailbox {
+            tmp: format!(in alloc; "{account}/.{mailbox}/tmp")?,
+            new: format!(in alloc; "{account}/.{mailbox}/new")?,
+            cur: format!(in alloc; "{account}/.{mailbox}/cur")?,
+        })
     }
 
     /// The folders of INBOX.
@@ -48,6 +44,6 @@ impl Mailbox {
 }
 
 /// The path of a file in a folder.
-pub(crate) fn path_in(alloc: Global, folder: &String, name: &str) -> Result<String, AllocError> {
+pub(crate) fn path_in(alloc: Global, folder: &str, name: &str) -> Result<String, AllocError> {
     format!(in alloc; "{folder}/{name}")
 }

@@ -19,7 +19,7 @@ fn ledger_name(alloc: Global, root: u32) -> Result<String, AllocError> {
 /// The path of a root's ledger.
 fn ledger_path(alloc: Global, account: &str, root: u32) -> Result<String, AllocError> {
     let name = ledger_name(alloc, root)?;
-    format!(in alloc; "{account}/{name}")
+    path_in(alloc, account, name.as_str())
 }
 
 /// The bytes of a root's ledger, or `None` where there is no such file.
@@ -63,7 +63,7 @@ pub(crate) fn install<R: Files>(
     let path = ledger_path(alloc, account, root)?;
     let inbox = Mailbox::inbox(alloc, account)?;
     let name = ledger_name(alloc, root)?;
-    let draft = path_in(alloc, &inbox.tmp, name.as_str())?;
+    let draft = path_in(alloc, inbox.tmp.as_str(), name.as_str())?;
     inbox.make(rt).map_err(fault)?;
     place(rt, draft.as_str(), path.as_str(), text).map_err(fault)
 }

@@ -3,15 +3,15 @@
 
 mod errors;
 mod folders;
-mod keeper;
+mod fs_keeper;
+mod fs_stores;
 mod ledgers;
 mod messages;
 mod names;
-mod stores;
 mod writing;
 
-pub use keeper::FsKeeper;
-pub use stores::FsStores;
+pub use fs_keeper::FsKeeper;
+pub use fs_stores::FsStores;
 
 #[cfg(test)]
 mod tests;

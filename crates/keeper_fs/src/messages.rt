@@ -1,10 +1,13 @@
+ghost use Rattle.std.specs.Prelude.{◌≡◌, ◌&&◌, false};
+ghost use Rattle.keeper_fs.specs.Names.{is_file_name};
+
 use crate::errors::{cause, fault};
 use crate::folders::{Mailbox, path_in};
 use crate::names::file_name;
 use crate::writing::place;
 use keeper::{Bytes, FileRow, KeepError};
 use message_names::parse_name;
-use std::alloc::Global;
+use std::alloc::{AllocError, Global};
 use std::fs;
 use std::fs::{DirEntry, Files};
 use std::io;
@@ -18,14 +21,14 @@ struct Places {
 }
 
 impl Places {
-    fn of(alloc: Global, mailbox: &Mailbox, name: &str) -> Result<Places, KeepError> {
+    fn of(alloc: Global, mailbox: &Mailbox, name: &str) -> Result<Places, AllocError> {
         Ok(Places {
-            new: path_in(alloc, &mailbox.new, name)?,
-            cur: path_in(alloc, &mailbox.cur, name)?,
+            new: path_in(alloc, mailbox.new.as_str(), name)?,
+            cur: path_in(alloc, mailbox.cur.as_str(), name)?,
         })
     }
 
-    /// Where a file of this name is put: in `cur` if the name has an info part of flags, and else in `new`.
+    /// Where a file of this name is put: in `cur` if the name has flags behind `:2,`, be they none, and else in `new`.
     fn home(&self, name: &str) -> &str {
         if name.contains(":2,") {
             self.cur.as_str()
@@ -56,7 +59,10 @@ pub(crate) fn list<R: Files + AllocGlobal + Clone + Drop>(
     alloc: Global,
     account: &str,
     mailbox: &[u8],
-) -> Result<Vec<FileRow>, KeepError> {
+) -> Result<Vec<FileRow>, KeepError>
+    ensures { is_file_name mailbox.now ≡ false → result ≡ Err KeepError.Failed }
+{
+    let mailbox = file_name(mailbox)?;
     let folders = Mailbox::of(alloc, account, mailbox)?;
     let mut rows = Vec::new(alloc);
     add_rows(rt, alloc, folders.new.as_str(), &mut rows)?;
@@ -64,7 +70,7 @@ pub(crate) fn list<R: Files + AllocGlobal + Clone + Drop>(
     Ok(rows)
 }
 
-/// Adds the files of a folder, in the order in which the system names them; names that begin with `.` are left out.
+/// Adds the files of a folder, in the order in which the system names them. Names that begin with `.` are left out.
 fn add_rows<R: Files + AllocGlobal + Clone + Drop>(
     rt: &R,
     alloc: Global,
@@ -85,7 +91,7 @@ fn add_rows<R: Files + AllocGlobal + Clone + Drop>(
     Ok(())
 }
 
-/// The row of a file. Its length is the size that its name states; where it states none, the file is asked.
+/// The row of a file. Its length is the size that its name states, and where it states none, that of the file.
 fn row_of<R: Files>(rt: &R, alloc: Global, entry: &DirEntry<R>) -> Result<FileRow, KeepError> {
     let name = entry.file_name().as_bytes();
     let length = match parse_name(name).size {
@@ -106,10 +112,13 @@ pub(crate) fn put<R: Files>(
     mailbox: &[u8],
     name: &[u8],
     octets: &[u8],
-) -> Result<(), KeepError> {
-    let folders = Mailbox::of(alloc, account, mailbox)?;
+) -> Result<(), KeepError>
+    ensures { (is_file_name mailbox.now && is_file_name name.now) ≡ false → result ≡ Err KeepError.Failed }
+{
+    let mailbox = file_name(mailbox)?;
     let name = file_name(name)?;
-    let draft = path_in(alloc, &folders.tmp, name)?;
+    let folders = Mailbox::of(alloc, account, mailbox)?;
+    let draft = path_in(alloc, folders.tmp.as_str(), name)?;
     let places = Places::of(alloc, &folders, name)?;
     folders.make(rt).map_err(fault)?;
     places.require_free(rt).map_err(fault)?;
@@ -121,21 +130,33 @@ pub(crate) fn rename<R: Files>(
     rt: &R,
     alloc: Global,
     account: &str,
-    from: (&[u8], &[u8]),
-    to: (&[u8], &[u8]),
-) -> Result<(), KeepError> {
-    let old = Places::of(alloc, &Mailbox::of(alloc, account, from.0)?, file_name(from.1)?)?;
-    let folders = Mailbox::of(alloc, account, to.0)?;
-    let name = file_name(to.1)?;
-    let new = Places::of(alloc, &folders, name)?;
+    from: &[u8],
+    name: &[u8],
+    to: &[u8],
+    new_name: &[u8],
+) -> Result<(), KeepError>
+    ensures { (is_file_name from.now && (is_file_name name.now && (is_file_name to.now && is_file_name new_name.now))) ≡ false → result ≡ Err KeepError.Failed }
+{
+    let from = file_name(from)?;
+    let name = file_name(name)?;
+    let to = file_name(to)?;
+    let new_name = file_name(new_name)?;
+    let old = Places::of(alloc, &Mailbox::of(alloc, account, from)?, name)?;
+    let folders = Mailbox::of(alloc, account, to)?;
+    let new = Places::of(alloc, &folders, new_name)?;
     folders.make(rt).map_err(fault)?;
     new.require_free(rt).map_err(fault)?;
-    let target = new.home(name);
-    match fs::rename(rt, old.new.as_str(), target) {
-        Err(error) if error.kind() == ErrorKind::NotFound => fs::rename(rt, old.cur.as_str(), target),
+    move_file(rt, &old, new.home(new_name)).map_err(fault)
+}
+
+/// Renames the file that stands in one of the places.
+fn move_file<R: Files>(rt: &R, places: &Places, target: &str) -> io::Result<()> {
+    match fs::rename(rt, places.new.as_str(), target) {
+        Err(error) if error.kind() == ErrorKind::NotFound => {
+            fs::rename(rt, places.cur.as_str(), target)
+        }
         renamed => renamed,
     }
-    .map_err(fault)
 }
 
 /// Removes a message file.
@@ -145,11 +166,16 @@ pub(crate) fn remove<R: Files>(
     account: &str,
     mailbox: &[u8],
     name: &[u8],
-) -> Result<(), KeepError> {
-    let places = Places::of(alloc, &Mailbox::of(alloc, account, mailbox)?, file_name(name)?)?;
+) -> Result<(), KeepError>
+    ensures { (is_file_name mailbox.now && is_file_name name.now) ≡ false → result ≡ Err KeepError.Failed }
+{
+    let mailbox = file_name(mailbox)?;
+    let name = file_name(name)?;
+    let places = Places::of(alloc, &Mailbox::of(alloc, account, mailbox)?, name)?;
     match fs::remove_file(rt, places.new.as_str()) {
-        Err(error) if error.kind() == ErrorKind::NotFound => fs::remove_file(rt, places.cur.as_str()),
-        removed => removed,
+        Err(error) if error.kind() == ErrorKind::NotFound => {
+            fs::remove_file(rt, places.cur.as_str()).map_err(fault)
+        }
+        removed => removed.map_err(fault),
     }
-    .map_err(fault)
 }

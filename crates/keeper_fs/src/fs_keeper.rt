@@ -1,4 +1,4 @@
-ghost use Rattle.std.specs.Prelude.{◌≡◌, ◌≤◌, ◌<◌, ℕ, None, false, Option, IsErr, IsErrOf};
+ghost use Rattle.std.specs.Prelude.{◌≡◌, ◌≤◌, ◌<◌, ◌&&◌, ℕ, None, false, Option, IsErr, IsErrOf};
 ghost use Rattle.keeper.specs.Causes.{HasCause, next_count};
 ghost use Rattle.keeper_fs.specs.Names.{is_file_name};
 ghost use Rattle.keeper_fs.specs.Real.{faults_of, append_faults_of, lists_of};
@@ -79,7 +79,13 @@ impl<R: Files + AllocGlobal + Clone + Drop> Keeper for FsKeeper<R> {
 
     ghost lists = { lists_of };
 
-    fn list(&mut self, alloc: Global, mailbox: &[u8]) -> Result<Vec<FileRow>, KeepError> {
+    fn list(&mut self, alloc: Global, mailbox: &[u8]) -> Result<Vec<FileRow>, KeepError>
+        ensures cause { HasCause (IsErrOf result KeepError.Failed) (faults_of self.old) (faults_of self.new) }
+        ensures appends { append_faults_of self.new ≡ append_faults_of self.old }
+        ensures listings { lists_of self.new ≡ next_count (lists_of self.old) }
+        // Only a name that leads to no other folder is looked for.
+        ensures outside { is_file_name mailbox.now ≡ false → IsErrOf result KeepError.Failed }
+    {
         self.lists = self.lists.saturating_add(1);
         let answer = messages::list(&self.rt, alloc, self.folder.as_str(), mailbox);
         self.counted(answer)
@@ -91,7 +97,13 @@ impl<R: Files + AllocGlobal + Clone + Drop> Keeper for FsKeeper<R> {
         mailbox: &[u8],
         name: &[u8],
         octets: &[u8],
-    ) -> Result<(), KeepError> {
+    ) -> Result<(), KeepError>
+        ensures cause { HasCause (IsErrOf result KeepError.Failed) (faults_of self.old) (faults_of self.new) }
+        ensures appends { append_faults_of self.new ≡ append_faults_of self.old }
+        ensures listings { lists_of self.new ≡ lists_of self.old }
+        // Only names that lead to no other folder are written.
+        ensures outside { (is_file_name mailbox.now && is_file_name name.now) ≡ false → IsErrOf result KeepError.Failed }
+    {
         let answer = messages::put(&self.rt, alloc, self.folder.as_str(), mailbox, name, octets);
         self.counted(answer)
     }
@@ -103,18 +115,25 @@ impl<R: Files + AllocGlobal + Clone + Drop> Keeper for FsKeeper<R> {
         name: &[u8],
         to: &[u8],
         new_name: &[u8],
-    ) -> Result<(), KeepError> {
-        let answer = messages::rename(
-            &self.rt,
-            alloc,
-            self.folder.as_str(),
-            (from, name),
-            (to, new_name),
-        );
+    ) -> Result<(), KeepError>
+        ensures cause { HasCause (IsErrOf result KeepError.Failed) (faults_of self.old) (faults_of self.new) }
+        ensures appends { append_faults_of self.new ≡ append_faults_of self.old }
+        ensures listings { lists_of self.new ≡ lists_of self.old }
+        // Only names that lead to no other folder are renamed.
+        ensures outside { (is_file_name from.now && (is_file_name name.now && (is_file_name to.now && is_file_name new_name.now))) ≡ false → IsErrOf result KeepError.Failed }
+    {
+        let folder = self.folder.as_str();
+        let answer = messages::rename(&self.rt, alloc, folder, from, name, to, new_name);
         self.counted(answer)
     }
 
-    fn remove(&mut self, mailbox: &[u8], name: &[u8]) -> Result<(), Failed> {
+    fn remove(&mut self, mailbox: &[u8], name: &[u8]) -> Result<(), Failed>
+        ensures cause { HasCause (IsErr result) (faults_of self.old) (faults_of self.new) }
+        ensures appends { append_faults_of self.new ≡ append_faults_of self.old }
+        ensures listings { lists_of self.new ≡ lists_of self.old }
+        // Only a name that leads to no other folder is removed.
+        ensures outside { (is_file_name mailbox.now && is_file_name name.now) ≡ false → IsErr result }
+    {
         match messages::remove(&self.rt, self.rt.alloc(), self.folder.as_str(), mailbox, name) {
             Ok(()) => Ok(()),
             Err(_) => Err(self.fail()),
