@@ -1,7 +1,6 @@
 use std::alloc::{AllocError, Global};
-use std::fs;
 use std::fs::Files;
-use std::io;
+use std::{fs, io};
 
 /// The three folders of a mailbox (Maildir): a file is written in `tmp`, and is a message once it stands in `new` or `cur`.
 #[derive(Drop)]

@@ -1,6 +1,7 @@
-ghost use Rattle.std.specs.Prelude.{◌≡◌, ◌≤◌, ◌<◌, ◌&&◌, ℕ, None, false, Option, IsErr, IsErrOf};
+ghost use Rattle.std.specs.Prelude.{◌≡◌, ◌≤◌, ◌<◌, ◌&&◌, ℕ, None, false, Option, IsErr, IsErrOf, IfOk, All};
 ghost use Rattle.keeper.specs.Causes.{HasCause, next_count};
 ghost use Rattle.keeper_fs.specs.Names.{is_file_name};
+ghost use Rattle.keeper_fs.specs.Rows.{IsMessageRow};
 ghost use Rattle.keeper_fs.specs.Real.{faults_of, append_faults_of, lists_of};
 
 use crate::{ledgers, messages};
@@ -45,6 +46,14 @@ impl<R: Files + AllocGlobal + Clone + Drop> FsKeeper<R> {
         self.faults
     }
 
+    /// How often `append_ledger` has failed.
+    #[cfg(test)]
+    pub(crate) fn append_faults(&self) -> u64
+        ensures { result ≡ append_faults_of self.now }
+    {
+        self.append_faults
+    }
+
     /// Counts a fault of a call other than `append_ledger`.
     fn fail(&mut self) -> Failed
         ensures counted { faults_of self.new ≡ next_count (faults_of self.old) }
@@ -85,6 +94,8 @@ impl<R: Files + AllocGlobal + Clone + Drop> Keeper for FsKeeper<R> {
         ensures listings { lists_of self.new ≡ next_count (lists_of self.old) }
         // Only a name that leads to no other folder is looked for.
         ensures outside { is_file_name mailbox.now ≡ false → IsErrOf result KeepError.Failed }
+        // Only a file whose name other calls take is listed, and only where its name states no size is it asked for its length.
+        ensures rows { IfOk result (λ rows. All IsMessageRow rows.items) }
     {
         self.lists = self.lists.saturating_add(1);
         let answer = messages::list(&self.rt, alloc, self.folder.as_str(), mailbox);
@@ -134,7 +145,13 @@ impl<R: Files + AllocGlobal + Clone + Drop> Keeper for FsKeeper<R> {
         // Only a name that leads to no other folder is removed.
         ensures outside { (is_file_name mailbox.now && is_file_name name.now) ≡ false → IsErr result }
     {
-        match messages::remove(&self.rt, self.rt.alloc(), self.folder.as_str(), mailbox, name) {
+        match messages::remove(
+            &self.rt,
+            self.rt.alloc(),
+            self.folder.as_str(),
+            mailbox,
+            name,
+        ) {
             Ok(()) => Ok(()),
             Err(_) => Err(self.fail()),
         }

@@ -29,6 +29,14 @@ impl<R: Files + AllocGlobal + Clone + Drop> FsStores<R> {
             faults: 0,
         }
     }
+
+    /// How often a call has failed.
+    #[cfg(test)]
+    pub(crate) fn faults(&self) -> u64
+        ensures { result ≡ store_faults_of self.now }
+    {
+        self.faults
+    }
 }
 
 /// The folder of an account below a folder.

@@ -1,5 +1,6 @@
-ghost use Rattle.std.specs.Prelude.{◌≡◌, ◌&&◌, false};
+ghost use Rattle.std.specs.Prelude.{◌≡◌, ◌&&◌, false, IfOk, All};
 ghost use Rattle.keeper_fs.specs.Names.{is_file_name};
+ghost use Rattle.keeper_fs.specs.Rows.{IsMessageRow};
 
 use crate::errors::{cause, fault};
 use crate::folders::{Mailbox, path_in};
@@ -8,10 +9,12 @@ use crate::writing::place;
 use keeper::{Bytes, FileRow, KeepError};
 use message_names::parse_name;
 use std::alloc::{AllocError, Global};
-use std::fs;
-use std::fs::{DirEntry, Files};
-use std::io;
-use std::io::ErrorKind;
+use std::fs::Files;
+use std::io::{BufRead, BufReader, ErrorKind};
+
+/// How many bytes of a folder's names are asked for at once.
+const NAMES_AT_ONCE: usize = 32768;
+use std::{fs, io};
 
 /// A message file's path where it stands in `new`, and where it stands in `cur`.
 #[derive(Drop)]
@@ -54,13 +57,14 @@ fn require_none<R: Files>(rt: &R, path: &str) -> io::Result<()> {
 }
 
 /// The message files of a mailbox: those in `new`, then those in `cur`. A folder that is not there has none.
-pub(crate) fn list<R: Files + AllocGlobal + Clone + Drop>(
+pub(crate) fn list<R: Files>(
     rt: &R,
     alloc: Global,
     account: &str,
     mailbox: &[u8],
 ) -> Result<Vec<FileRow>, KeepError>
-    ensures { is_file_name mailbox.now ≡ false → result ≡ Err KeepError.Failed }
+    ensures outside { is_file_name mailbox.now ≡ false → result ≡ Err KeepError.Failed }
+    ensures rows { IfOk result (λ rows. All IsMessageRow rows.items) }
 {
     let mailbox = file_name(mailbox)?;
     let folders = Mailbox::of(alloc, account, mailbox)?;
@@ -71,37 +75,50 @@ pub(crate) fn list<R: Files + AllocGlobal + Clone + Drop>(
 }
 
 /// Adds the files of a folder, in the order in which the system names them. Names that begin with `.` are left out.
-fn add_rows<R: Files + AllocGlobal + Clone + Drop>(
+fn add_rows<R: Files>(
     rt: &R,
     alloc: Global,
     folder: &str,
     rows: &mut Vec<FileRow>,
-) -> Result<(), KeepError> {
-    let entries = match fs::read_dir(rt, folder) {
-        Ok(entries) => entries,
+) -> Result<(), KeepError>
+    requires { All IsMessageRow rows.old.items }
+    ensures { All IsMessageRow rows.new.items }
+{
+    let folder = format!(in alloc; "{folder}/")?;
+    let names = match rt.open_dir(folder.as_str()) {
+        Ok(names) => names,
         Err(error) if error.kind() == ErrorKind::NotFound => return Ok(()),
         Err(error) => return Err(cause(error)),
     };
-    for entry in entries {
-        let entry = entry.map_err(cause)?;
-        if !entry.file_name().starts_with('.') {
-            rows.push(row_of(rt, alloc, &entry)?)?;
+    let names = BufReader::with_capacity(alloc, NAMES_AT_ONCE, names).map_err(cause)?;
+    for name in names.split(alloc, 0) {
+        let name = name.map_err(cause)?;
+        if !name.starts_with(b".") {
+            rows.push(row_of(rt, alloc, folder.as_str(), name)?)?;
         }
     }
     Ok(())
 }
 
 /// The row of a file. Its length is the size that its name states, and where it states none, that of the file.
-fn row_of<R: Files>(rt: &R, alloc: Global, entry: &DirEntry<R>) -> Result<FileRow, KeepError> {
-    let name = entry.file_name().as_bytes();
-    let length = match parse_name(name).size {
+fn row_of<R: Files>(rt: &R, alloc: Global, folder: &str, name: Vec<u8>) -> Result<FileRow, KeepError>
+    ensures { IfOk result IsMessageRow }
+{
+    let text = file_name(name.as_slice())?;
+    let length = match parse_name(name.as_slice()).size {
         Some(size) => size,
-        None => fs::metadata(rt, entry.path()).map_err(cause)?.len(),
+        None => file_length(rt, alloc, folder, text)?,
     };
     Ok(FileRow {
-        name: Bytes::new(name.to_vec(alloc)?),
+        name: Bytes::new(name),
         length,
     })
+}
+
+/// The length of a file.
+fn file_length<R: Files>(rt: &R, alloc: Global, folder: &str, name: &str) -> Result<u64, KeepError> {
+    let path = format!(in alloc; "{folder}{name}")?;
+    Ok(fs::metadata(rt, path.as_str()).map_err(cause)?.len())
 }
 
 /// Adds a message file to a mailbox, and makes what is missing of its folders.

@@ -1,7 +1,6 @@
-use std::fs;
 use std::fs::{File, Files, OpenFile};
-use std::io;
 use std::io::{ErrorKind, Write};
+use std::{fs, io};
 
 /// Puts a file with these bytes at `target`, which they reach as a whole: they are written at `draft`, handed to the disk, and
 /// renamed. After an error the draft is removed, if that can be done.
