@@ -14,6 +14,7 @@ use std::io::{BufRead, BufReader, ErrorKind};
 
 /// How many bytes of a folder's names are asked for at once.
 const NAMES_AT_ONCE: usize = 32768;
+
 use std::{fs, io};
 
 /// A message file's path where it stands in `new`, and where it stands in `cur`.
@@ -75,6 +76,7 @@ pub(crate) fn list<R: Files>(
 }
 
 /// Adds the files of a folder, in the order in which the system names them. Names that begin with `.` are left out.
+#[tactic(auto, using(crate::proofs::RowLemmas::one_more))]
 fn add_rows<R: Files>(
     rt: &R,
     alloc: Global,
@@ -101,7 +103,12 @@ fn add_rows<R: Files>(
 }
 
 /// The row of a file. Its length is the size that its name states, and where it states none, that of the file.
-fn row_of<R: Files>(rt: &R, alloc: Global, folder: &str, name: Vec<u8>) -> Result<FileRow, KeepError>
+fn row_of<R: Files>(
+    rt: &R,
+    alloc: Global,
+    folder: &str,
+    name: Vec<u8>,
+) -> Result<FileRow, KeepError>
     ensures { IfOk result IsMessageRow }
 {
     let text = file_name(name.as_slice())?;
@@ -116,7 +123,12 @@ fn row_of<R: Files>(rt: &R, alloc: Global, folder: &str, name: Vec<u8>) -> Resul
 }
 
 /// The length of a file.
-fn file_length<R: Files>(rt: &R, alloc: Global, folder: &str, name: &str) -> Result<u64, KeepError> {
+fn file_length<R: Files>(
+    rt: &R,
+    alloc: Global,
+    folder: &str,
+    name: &str,
+) -> Result<u64, KeepError> {
     let path = format!(in alloc; "{folder}{name}")?;
     Ok(fs::metadata(rt, path.as_str()).map_err(cause)?.len())
 }
