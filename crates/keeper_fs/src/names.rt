@@ -3,6 +3,7 @@ ghost use Rattle.std.specs.List.{list_any};
 ghost use Rattle.keeper_fs.specs.Names.{is_separator, is_plain, is_file_name};
 
 use keeper::Failed;
+use memchr::memchr2;
 
 /// The text of a name of one file or folder.
 ///
@@ -28,14 +29,12 @@ fn is_plain(name: &[u8]) -> bool
     !name.is_empty() && !name.starts_with(b".") && !has_separator(name)
 }
 
+#[tactic(auto, using(crate::proofs::NameLemmas::found, crate::proofs::NameLemmas::missed))]
 fn has_separator(name: &[u8]) -> bool
     ensures { result ≡ list_any is_separator name.now }
 {
-    name.iter().any(|byte| is_separator(*byte))
-}
-
-fn is_separator(byte: u8) -> bool
-    ensures { result ≡ is_separator byte }
-{
-    byte == 0 || byte == b'/'
+    match memchr2(0, b'/', name) {
+        Some(_) => true,
+        None => false,
+    }
 }
