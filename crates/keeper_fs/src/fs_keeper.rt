@@ -4,7 +4,7 @@ ghost use Rattle.keeper_fs.specs.Names.{is_file_name};
 ghost use Rattle.keeper_fs.specs.Rows.{IsMessageRow};
 ghost use Rattle.keeper_fs.specs.Real.{faults_of, append_faults_of, lists_of};
 
-use crate::{ledgers, messages};
+use crate::{ledgers, listing, messages};
 use keeper::{Failed, FileRow, KeepError, Keeper};
 use std::alloc::Global;
 use std::fs::Files;
@@ -98,7 +98,7 @@ impl<R: Files + AllocGlobal + Clone + Drop> Keeper for FsKeeper<R> {
         ensures rows { IfOk result (λ rows. All IsMessageRow rows.items) }
     {
         self.lists = self.lists.saturating_add(1);
-        let answer = messages::list(&self.rt, alloc, self.folder.as_str(), mailbox);
+        let answer = listing::list(&self.rt, alloc, self.folder.as_str(), mailbox);
         self.counted(answer)
     }
 

@@ -6,6 +6,7 @@ mod folders;
 mod fs_keeper;
 mod fs_stores;
 mod ledgers;
+mod listing;
 mod messages;
 mod names;
 mod writing;

@@ -1,20 +1,14 @@
-ghost use Rattle.std.specs.Prelude.{◌≡◌, ◌&&◌, false, IfOk, All};
+ghost use Rattle.std.specs.Prelude.{◌≡◌, ◌&&◌, false};
 ghost use Rattle.keeper_fs.specs.Names.{is_file_name};
-ghost use Rattle.keeper_fs.specs.Rows.{IsMessageRow};
 
-use crate::errors::{cause, fault};
+use crate::errors::fault;
 use crate::folders::{Mailbox, path_in};
 use crate::names::file_name;
 use crate::writing::place;
-use keeper::{Bytes, FileRow, KeepError};
-use message_names::parse_name;
+use keeper::KeepError;
 use std::alloc::{AllocError, Global};
 use std::fs::Files;
-use std::io::{BufRead, BufReader, ErrorKind};
-
-/// How many bytes of a folder's names are asked for at once.
-const NAMES_AT_ONCE: usize = 32768;
-
+use std::io::ErrorKind;
 use std::{fs, io};
 
 /// A message file's path where it stands in `new`, and where it stands in `cur`.
@@ -55,82 +49,6 @@ fn require_none<R: Files>(rt: &R, path: &str) -> io::Result<()> {
         Err(error) if error.kind() == ErrorKind::NotFound => Ok(()),
         Err(error) => Err(error),
     }
-}
-
-/// The message files of a mailbox: those in `new`, then those in `cur`. A folder that is not there has none.
-pub(crate) fn list<R: Files>(
-    rt: &R,
-    alloc: Global,
-    account: &str,
-    mailbox: &[u8],
-) -> Result<Vec<FileRow>, KeepError>
-    ensures outside { is_file_name mailbox.now ≡ false → result ≡ Err KeepError.Failed }
-    ensures rows { IfOk result (λ rows. All IsMessageRow rows.items) }
-{
-    let mailbox = file_name(mailbox)?;
-    let folders = Mailbox::of(alloc, account, mailbox)?;
-    let mut rows = Vec::new(alloc);
-    add_rows(rt, alloc, folders.new.as_str(), &mut rows)?;
-    add_rows(rt, alloc, folders.cur.as_str(), &mut rows)?;
-    Ok(rows)
-}
-
-/// Adds the files of a folder, in the order in which the system names them. Names that begin with `.` are left out.
-#[tactic(auto, using(crate::proofs::RowLemmas::one_more))]
-fn add_rows<R: Files>(
-    rt: &R,
-    alloc: Global,
-    folder: &str,
-    rows: &mut Vec<FileRow>,
-) -> Result<(), KeepError>
-    requires { All IsMessageRow rows.old.items }
-    ensures { All IsMessageRow rows.new.items }
-{
-    let folder = format!(in alloc; "{folder}/")?;
-    let names = match rt.open_dir(folder.as_str()) {
-        Ok(names) => names,
-        Err(error) if error.kind() == ErrorKind::NotFound => return Ok(()),
-        Err(error) => return Err(cause(error)),
-    };
-    let names = BufReader::with_capacity(alloc, NAMES_AT_ONCE, names).map_err(cause)?;
-    for name in names.split(alloc, 0) {
-        let name = name.map_err(cause)?;
-        if !name.starts_with(b".") {
-            rows.push(row_of(rt, alloc, folder.as_str(), name)?)?;
-        }
-    }
-    Ok(())
-}
-
-/// The row of a file. Its length is the size that its name states, and where it states none, that of the file.
-fn row_of<R: Files>(
-    rt: &R,
-    alloc: Global,
-    folder: &str,
-    name: Vec<u8>,
-) -> Result<FileRow, KeepError>
-    ensures { IfOk result IsMessageRow }
-{
-    let text = file_name(name.as_slice())?;
-    let length = match parse_name(name.as_slice()).size {
-        Some(size) => size,
-        None => file_length(rt, alloc, folder, text)?,
-    };
-    Ok(FileRow {
-        name: Bytes::new(name),
-        length,
-    })
-}
-
-/// The length of a file.
-fn file_length<R: Files>(
-    rt: &R,
-    alloc: Global,
-    folder: &str,
-    name: &str,
-) -> Result<u64, KeepError> {
-    let path = format!(in alloc; "{folder}{name}")?;
-    Ok(fs::metadata(rt, path.as_str()).map_err(cause)?.len())
 }
 
 /// Adds a message file to a mailbox, and makes what is missing of its folders.
