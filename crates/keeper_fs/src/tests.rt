@@ -18,6 +18,11 @@ fn ann(rt: HostRuntime) -> Result<FsKeeper<HostRuntime>, Fail> {
     Ok(stores.open(alloc, b"ann")?)
 }
 
+/// What may be handed to another thread.
+fn handed_over<T: Send>(value: T) -> T {
+    value
+}
+
 /// Names with their lengths, in the order of the names.
 fn shown(alloc: Global, rows: &[FileRow]) -> Result<String, Fail> {
     let mut lines = Vec::new(alloc);
@@ -77,7 +82,7 @@ fn a_store_is_made_where_nothing_was_and_its_calls_do_what_they_say(
     rt: HostRuntime,
 ) -> Result<(), Fail> {
     let alloc = rt.alloc();
-    let mut keeper = ann(rt)?;
+    let mut keeper = handed_over(ann(rt)?);
     // Nothing is there, and looking makes nothing.
     check_mailbox(&rt, &mut keeper, b"INBOX", "")?;
     check_mailbox(&rt, &mut keeper, b"Sent", "")?;
