@@ -1,5 +1,5 @@
 -- Rows that are added to a listing.
-use Rattle.std.proofs.Common.{◌≡◌, List, [], ◌∷◌, ◌++◌, All}
+use Rattle.std.proofs.Common.{List, [], ◌∷◌, ◌++◌, All}
 use Rattle.std.proofs.lemmas.List.Elements.{All-push}
 use Rattle.keeper.specs.declared.rows.FileRow.{FileRow}
 use Rattle.keeper_fs.specs.Rows.{IsMessageRow}
