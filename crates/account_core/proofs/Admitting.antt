@@ -1,11 +1,10 @@
 -- Messages that fit, and what becomes of the usages where one is accepted.
-use Rattle.std.proofs.Common.{◌≡◌, ℕ, zero, suc, ◌+◌, ◌<◌, ◌↔◌, Bool, true, false, cond, not, ◌&&◌, List, [], ◌∷◌, ◌++◌, length, get_or, map, Option, Some, None, arith, refl, sym, ◌∙◌, ap, inl, inr, codes, sum_by, subst}
-use Rattle.std.specs.List.{All, Contains, filter_map, cons_option, slice_get}
+use Rattle.std.proofs.Common.{◌≡◌, ℕ, zero, suc, ◌+◌, ◌<◌, ◌↔◌, Bool, true, false, cond, not, ◌&&◌, List, [], ◌∷◌, ◌++◌, length, get_or, Option, Some, None, arith, refl, sym, ◌∙◌, ap, inl, inr, codes}
+use Rattle.std.specs.List.{Contains, filter_map, cons_option, slice_get}
 use Rattle.std.specs.Option.{option_map, option_map_or}
-use Rattle.std.proofs.lemmas.Bool.{and_parts, and_from, false≢true, cases_lt}
-use Rattle.std.proofs.lemmas.List.Sums.{sum_by_push}
+use Rattle.std.proofs.lemmas.Bool.{and_parts, false≢true, cases_lt}
 use Rattle.std.proofs.lemmas.List.Elements.{All-contains, Contains-get_or}
-use Rattle.std.proofs.lemmas.Option.{slice_get_past, slice_get-get_or}
+use Rattle.std.proofs.lemmas.Option.{slice_get_past}
 use Rattle.quota_units.specs.Limiting.{LimitNumbers}
 use Rattle.quota_units.specs.declared.flags.Flags.{Flags}
 use Rattle.quota_units.specs.declared.resource.Resource.{Resource}
@@ -14,17 +13,17 @@ use Rattle.quota_units.specs.declared.totals.Totals.{Totals}
 use Rattle.quota_roots.specs.declared.root.RootSpec.{RootSpec}
 use Rattle.quota_roots.specs.Governing.{governs, governs_at, governing}
 use Rattle.quota_roots.proofs.GoverningLemmas.{governing_members, governs_at_get_or}
-use Rattle.admission.specs.Fitting.{allows, over, first_over, all_over, limits_at, totals_at, fits_root, FitsEach}
-use Rattle.account_core.specs.declared.calls.Call.{Call}
-use Rattle.account_core.specs.declared.calls.Call.TheVariants.{Deliver, Check}
+use Rattle.admission.specs.Fitting.{allows, over, first_over, limits_at, totals_at, fits_root, FitsEach}
+use Rattle.account_core.specs.declared.calls.Call.TheVariants.{Deliver}
 use Rattle.account_core.specs.declared.calls.Entry.{Entry}
 use Rattle.account_core.specs.declared.calls.Reply.{Reply}
-use Rattle.account_core.specs.declared.calls.Reply.TheVariants.{Over, Delivered, NoMailbox, Fits}
-use Rattle.account_core.specs.Account.{Account, Message, Opened, counted, usage}
-use Rattle.account_core.specs.Machine.{has_mailbox, usages, over_in, over_or, step, reply_of, delivery_reply, delivered_message, delivered_after}
-use Rattle.account_core.specs.History.{replay, reply, entry_of, account_after}
+use Rattle.account_core.specs.declared.calls.Reply.TheVariants.{Delivered, NoMailbox, Fits}
+use Rattle.account_core.specs.Account.{Account, Message, Opened, usage}
+use Rattle.account_core.specs.Machine.{usages, over_in, over_or, delivered_message, delivered_after}
+use Rattle.account_core.specs.History.{reply, entry_of}
 use Rattle.account_core.specs.Legality.{AreWithin, account_at, FitsIn, NoneBroken, IsOver, OverWhereNoFit}
 use Rattle.account_core.proofs.Replaying.{replay_more}
+use Rattle.account_core.proofs.MessageSums.{counted_push}
 
 abbrev named : (ℕ → Option Resource) → ℕ → Option (ℕ × Resource)
 named h root = option_map (λ resource. (root, resource)) (h root)
@@ -79,18 +78,13 @@ totals_at-usages (x ∷ roots) account (suc root) d inside = totals_at-usages ro
 pub same_totals : {a b c d : ℕ} → a ≡ c → b ≡ d → (let x : Totals = record { octets = a; count = b } in x) ≡ record { octets = c; count = d }
 same_totals {b = b} {c = c} e f = ap (λ n. let x : Totals = record { octets = n; count = b } in x) e ∙ ap (λ n. let x : Totals = record { octets = c; count = n } in x) f
 
-counted_push : (root : RootSpec) (weight : Message → ℕ) (messages : List Message) (message : Message) (b : Bool) → governs root message.mailbox ≡ b
-    → counted root weight (messages ++ message ∷ []) ≡ counted root weight messages + cond b (weight message) 0
-counted_push root weight messages message b is =
-    sum_by_push (λ (m : Message). cond (governs root m.mailbox) (weight m) 0) messages message ∙ ap (λ (c : Bool). counted root weight messages + cond c (weight message) 0) is
-
 -- what a root that governs the mailbox has, once the message stands at the end
 usage_push : (root : RootSpec) (account : Account) (message : Message) → governs root message.mailbox ≡ true
     → usage root (record account { messages = account.messages ++ message ∷ [] }) ≡ record { octets = (usage root account).octets + message.octets; count = (usage root account).count + 1 }
 usage_push root account message governed =
     same_totals (counted_push root (λ m. m.octets) account.messages message true governed) (counted_push root (λ m. 1) account.messages message true governed)
 
-within_from : (limits limits' : LimitNumbers) (had had' has : Totals) (octets : ℕ) → had ≡ had' → limits' ≡ limits → has ≡ record { octets = had'.octets + octets; count = had'.count + 1 }
+pub within_from : (limits limits' : LimitNumbers) (had had' has : Totals) (octets : ℕ) → had ≡ had' → limits' ≡ limits → has ≡ record { octets = had'.octets + octets; count = had'.count + 1 }
     → fits_root limits had octets ≡ true → AreWithin limits' has
 within_from limits limits' had had' has octets same kept more fits =
     let both : fits_root limits had' octets ≡ true = rw (← same) fits in
@@ -114,7 +108,7 @@ module _ (opened : Opened) (history : List Entry) (caller : ℕ) (mailbox : List
   accepted number false o e = absurd (cc)
 
   after_is : (number : ℕ) → reply opened history (Deliver mailbox octets flags) ≡ Delivered number
-      → after ≡ record before { messages = before.messages ++ delivered_message before.epoch number mailbox octets flags ∷ []; deliveries = number }
+      → after ≡ record before { messages = before.messages ++ delivered_message before.epoch number mailbox octets flags ∷ []; deliveries = number; generation = before.generation + 1 }
   after_is number given =
       replay_more opened.roots opened.account history (entry_of caller (Deliver mailbox octets flags) false)
       ∙ ap (λ r. delivered_after before mailbox octets flags r) given
@@ -136,7 +130,7 @@ module _ (opened : Opened) (history : List Entry) (caller : ℕ) (mailbox : List
       let kept : after.limits ≡ before.limits = ap (λ (a : Account). a.limits) (after_is number given) in
       within_from _ _ _ _ _ octets had (ap (λ ls. limits_at ls root) kept) has fits
 
-inside_of : (opened : Opened) (mailbox : List ℕ) (root : ℕ) → governs_at opened.roots root mailbox ≡ true → root < length opened.roots
+pub inside_of : (opened : Opened) (mailbox : List ℕ) (root : ℕ) → governs_at opened.roots root mailbox ≡ true → root < length opened.roots
 inside_of opened mailbox root governed = elim (cases_lt root (length opened.roots)) [
   | inl inside ↦ inside
   | inr past ↦ absurd (false≢true (sym (ap (λ o. option_map_or (λ spec. governs spec mailbox) o false) (slice_get_past opened.roots root past)) ∙ governed))
@@ -146,7 +140,7 @@ pub none_broken : NoneBroken
 none_broken opened history caller mailbox octets flags number given root governed =
     root_within opened history caller mailbox octets flags number root given governed (inside_of opened mailbox root governed)
 
-over_is : (o : Option (ℕ × Resource)) (given : Reply) → (IsOver given → ⊥) → (IsOver (over_or o given) ↔ (o ≡ None → ⊥))
+pub over_is : (o : Option (ℕ × Resource)) (given : Reply) → (IsOver given → ⊥) → (IsOver (over_or o given) ↔ (o ≡ None → ⊥))
 over_is None given other = (λ is. absurd (other is), λ no. absurd (no refl))
 over_is (Some place) given other = (λ is none. cc, λ no. (place.0, place.1, refl))
 

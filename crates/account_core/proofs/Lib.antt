@@ -3,3 +3,9 @@ pub mod Logging
 pub mod DeliveredLemmas
 pub mod Histories
 pub mod Admitting
+pub mod MessageSums
+pub mod Generations
+pub mod Moving
+pub mod Apart
+pub mod Naming
+pub mod Worked

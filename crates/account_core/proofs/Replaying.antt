@@ -2,7 +2,7 @@
 use Rattle.std.proofs.Common.{◌≡◌, false, ℕ, List, [], ◌∷◌, ◌++◌, refl, ◌∙◌, ap}
 use Rattle.quota_roots.specs.declared.root.RootSpec.{RootSpec}
 use Rattle.account_core.specs.declared.calls.Call.{Call}
-use Rattle.account_core.specs.declared.calls.Call.TheVariants.{Deliver, Check, Quota, SetLimits, Roots}
+use Rattle.account_core.specs.declared.calls.Call.TheVariants.{Deliver, Check, Remove, Mark, Move, Quota, SetLimits, Roots, Status, ScanBegin, ScanPart, Install}
 use Rattle.account_core.specs.declared.calls.Entry.{Entry}
 use Rattle.account_core.specs.Account.{Account}
 use Rattle.account_core.specs.Machine.{step, reply_of}
@@ -22,6 +22,13 @@ plain_replies opening limits history call e = ap (λ a. reply_of (plain_root ∷
 step_plain : (limits : LimitNumbers) (call : Call) → IsPlainCall call → step (plain_root ∷ []) (plain_account limits) call ≡ plain_account (plain_limits call limits)
 step_plain limits (Deliver mailbox octets flags) plain = absurd plain
 step_plain limits (Check octets) plain = absurd plain
+step_plain limits (Remove mailbox base) plain = absurd plain
+step_plain limits (Mark mailbox base flags) plain = absurd plain
+step_plain limits (Move from base to) plain = absurd plain
+step_plain limits (Status mailbox) plain = absurd plain
+step_plain limits ScanBegin plain = absurd plain
+step_plain limits (ScanPart index) plain = absurd plain
+step_plain limits (Install generation) plain = absurd plain
 step_plain limits (Quota name) plain = refl
 step_plain limits (SetLimits [] others) plain = refl
 step_plain limits (SetLimits (b ∷ name) others) plain = refl

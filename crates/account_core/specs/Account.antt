@@ -21,6 +21,8 @@ pub record Account : Type 0 where
   pub deliveries : ℕ
   -- the second at which the account was opened
   pub epoch : ℕ
+  -- how many deliveries, removals and moves between two mailboxes were made since
+  pub generation : ℕ
 
 -- what an account was opened with: its roots, the most entries of its history, and itself
 pub record Opened : Type 0 where

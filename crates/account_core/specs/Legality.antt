@@ -1,17 +1,18 @@
--- Legal histories; and two laws of deliveries, over every history.
-use Rattle.std.specs.Prelude.{◌≡◌, ◌≤◌, ◌↔◌, ℕ, true, false, if◌then◌else◌, List, [], ◌∷◌, ◌++◌, sum_by, codes}
+-- Legal histories; and laws of deliveries and moves, over every history.
+use Rattle.std.specs.Prelude.{◌≡◌, ◌≢◌, ◌≤◌, ◌↔◌, ℕ, true, false, if◌then◌else◌, List, [], ◌∷◌, ◌++◌, sum_by, codes, Some, None}
 use Rattle.quota_units.specs.Limiting.{LimitNumbers}
 use Rattle.quota_units.specs.declared.flags.Flags.{Flags}
 use Rattle.quota_units.specs.declared.resource.Resource.{Resource}
 use Rattle.quota_units.specs.declared.totals.Totals.{Totals}
-use Rattle.quota_roots.specs.Governing.{governing, governs_at}
+use Rattle.quota_roots.specs.Governing.{gaining, governing, governs_at}
 use Rattle.admission.specs.Fitting.{allows, limits_at, totals_at, FitsEach}
 use Rattle.account_core.specs.declared.calls.Call.{Call}
-use Rattle.account_core.specs.declared.calls.Call.TheVariants.{Deliver, Check, Quota, SetLimits, Roots}
+use Rattle.account_core.specs.declared.calls.Call.TheVariants.{Deliver, Check, Remove, Mark, Move, Quota, SetLimits, Roots, Status, ScanBegin, ScanPart, Install}
 use Rattle.account_core.specs.declared.calls.Entry.{Entry}
 use Rattle.account_core.specs.declared.calls.Reply.{Reply}
-use Rattle.account_core.specs.declared.calls.Reply.TheVariants.{Over, Delivered}
-use Rattle.account_core.specs.Account.{Account, Opened}
+use Rattle.account_core.specs.declared.calls.Reply.TheVariants.{Over, Delivered, Moved}
+use Rattle.account_core.specs.Account.{Account, Message, Opened}
+use Rattle.account_core.specs.Messages.{named_message}
 use Rattle.account_core.specs.Machine.{has_mailbox, usages}
 use Rattle.account_core.specs.History.{replay, reply, entry_of}
 
@@ -22,6 +23,13 @@ MayBeServed (Check octets) = Unit {0}
 MayBeServed (Quota name) = Unit {0}
 MayBeServed (SetLimits name limits) = Unit {0}
 MayBeServed (Roots mailbox) = Unit {0}
+MayBeServed (Remove mailbox base) = Unit {0}
+MayBeServed (Mark mailbox base flags) = Unit {0}
+MayBeServed (Move from base to) = Unit {0}
+MayBeServed (Status mailbox) = Unit {0}
+MayBeServed ScanBegin = Unit {0}
+MayBeServed (ScanPart index) = Unit {0}
+MayBeServed (Install generation) = Unit {0}
 
 -- each entry's call meets that
 abbrev pub AreServed : List Entry → Type 0
@@ -67,3 +75,35 @@ OverWhereNoFit =
     → ((mailbox : List ℕ) (flags : Flags) → has_mailbox (account_at opened history) mailbox ≡ true
     → (IsOver (reply opened history (Deliver mailbox octets flags)) ↔ ¬ FitsIn opened history mailbox octets))
     × (IsOver (reply opened history (Check octets)) ↔ ¬ FitsIn opened history (codes "INBOX") octets)
+
+-- the message fits each root that governs the target of a move and not its source
+abbrev pub FitsMoved : Opened → List Entry → List ℕ → List ℕ → ℕ → Type 0
+FitsMoved opened history from to octets =
+    FitsEach (account_at opened history).limits (usages opened.roots (account_at opened history)) (gaining opened.roots from to) octets
+
+-- No moved message breaks a limit: behind the entry of a move that was answered Moved, each root that governs the target and not
+-- the source has a usage within its limits.
+abbrev pub NoneBrokenByMoves : Type 0
+NoneBrokenByMoves =
+    (opened : Opened) (history : List Entry) (caller : ℕ) (from base to : List ℕ)
+    → reply opened history (Move from base to) ≡ Moved
+    → (root : ℕ) → governs_at opened.roots root to ≡ true → governs_at opened.roots root from ≡ false
+    → AreWithin
+    (limits_at (account_at opened (history ++ entry_of caller (Move from base to) false ∷ [])).limits root)
+    (totals_at (usages opened.roots (account_at opened (history ++ entry_of caller (Move from base to) false ∷ []))) root)
+
+-- the message is there, and nothing but a limit can keep it from the target
+pub record MayMove (account : Account) (from base to : List ℕ) (message : Message) : Type 0 where
+  pub source : has_mailbox account from ≡ true
+  pub target : has_mailbox account to ≡ true
+  pub there : named_message from base account.messages ≡ Some message
+  pub apart : from ≢ to
+  pub free : named_message to base account.messages ≡ None
+
+-- A move is answered that a root would be over exactly where nothing else keeps the message from the target, and the message does
+-- not fit the roots that govern the target and not the source.
+abbrev pub MoveOverWhereNoFit : Type 0
+MoveOverWhereNoFit =
+    (opened : Opened) (history : List Entry) (from base to : List ℕ)
+    → (IsOver (reply opened history (Move from base to))
+    ↔ ((message : Message) × MayMove (account_at opened history) from base to message × ¬ FitsMoved opened history from to message.octets))

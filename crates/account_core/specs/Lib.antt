@@ -1,7 +1,14 @@
 pub mod Account
 pub mod Delivering
+pub mod Messages
+pub mod Refusals
+pub mod Changing
+pub mod Scanning
 pub mod Machine
 pub mod History
 pub mod Legality
 pub mod Plain
 pub mod Histories
+pub mod Generations
+pub mod Naming
+pub mod Worked

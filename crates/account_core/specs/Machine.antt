@@ -1,21 +1,19 @@
 -- The account machine: what each call is answered, and the account after it.
-use Rattle.std.specs.Prelude.{ℕ, ◌+◌, Bool, List, [], ◌∷◌, ◌++◌, Option, Some, None, bytes_eq, codes, find, filter, map, set, if◌then◌else◌}
-use Rattle.std.specs.List.{list_any}
+use Rattle.std.specs.Prelude.{ℕ, ◌+◌, List, [], ◌∷◌, Option, Some, None, bytes_eq, codes, find, filter, map, set}
 use Rattle.quota_units.specs.Limiting.{LimitNumbers}
-use Rattle.quota_units.specs.declared.flags.Flags.{Flags}
-use Rattle.quota_units.specs.declared.resource.Resource.{Resource}
-use Rattle.quota_units.specs.declared.totals.Totals.{Totals}
-use Rattle.admission.specs.Fitting.{first_over}
 use Rattle.quota_roots.specs.declared.root.RootSpec.{RootSpec}
+use Rattle.quota_roots.specs.Governing.{governs}
+use Rattle.quota_roots.specs.RootLists.{place_of}
 use Rattle.account_core.specs.declared.calls.Call.{Call}
-use Rattle.account_core.specs.declared.calls.Call.TheVariants.{Deliver, Check, Quota as QuotaCall, SetLimits, Roots as RootsCall}
+use Rattle.account_core.specs.declared.calls.Call.TheVariants.{Deliver, Check, Remove, Mark, Move, Quota as QuotaCall, SetLimits, Roots as RootsCall, Status, ScanBegin, ScanPart, Install}
 use Rattle.account_core.specs.declared.calls.RootRow.{RootRow}
 use Rattle.account_core.specs.declared.calls.Reply.{Reply}
-use Rattle.account_core.specs.declared.calls.Reply.TheVariants.{NoMailbox, Over, Delivered, Fits, NoRoot, Quota, LimitsSet, Roots}
-use Rattle.quota_roots.specs.Governing.{governs, governing}
-use Rattle.quota_roots.specs.RootLists.{place_of}
-use Rattle.account_core.specs.Account.{Account, Message, usage}
-use Rattle.account_core.specs.Delivering.{delivered_base}
+use Rattle.account_core.specs.declared.calls.Reply.TheVariants.{Fits, Removed, Marked, NoRoot, Quota, LimitsSet, Roots}
+use Rattle.account_core.specs.Account.{Account, usage}
+use Rattle.account_core.specs.Scanning.{status_reply, begun_reply, part_reply, install_reply}
+pub use Rattle.quota_roots.specs.Governing.{gaining}
+pub use Rattle.account_core.specs.Refusals.{has_mailbox, in_mailbox, if_message, usages, over_of, over_in, over_or}
+pub use Rattle.account_core.specs.Changing.{delivery_reply, delivered_message, delivered_after, message_reply, removed_after, marked_after, placing_reply, moving_reply, move_reply, moved_after}
 
 -- a root's number, usage and limits
 abbrev pub row_of : Account → ℕ → RootSpec → LimitNumbers → RootRow
@@ -47,55 +45,37 @@ limits_reply limits (Some (root, row)) = LimitsSet (record row { limits = limits
 abbrev pub governing_rows : List RootSpec → Account → List ℕ → List RootRow
 governing_rows roots account mailbox = map (λ x. x.1) (filter (λ x. governs x.0 mailbox) (rows roots account))
 
-abbrev pub has_mailbox : Account → List ℕ → Bool
-has_mailbox account name = list_any (λ mailbox. bytes_eq mailbox name) account.mailboxes
-
--- the usage of each root
-abbrev pub usages : List RootSpec → Account → List Totals
-usages roots account = map (λ root. usage root account) roots
-
--- the first root that a message of so many octets does not fit, and the resource, among the roots that govern the mailbox
-abbrev pub over_in : List RootSpec → Account → List ℕ → ℕ → Option (ℕ × Resource)
-over_in roots account mailbox octets = first_over account.limits (usages roots account) (governing roots mailbox) octets
-
-abbrev pub over_or : Option (ℕ × Resource) → Reply → Reply
-over_or None given = given
-over_or (Some place) given = Over place.0 place.1
-
--- the answer to a delivery: its number counts the accepted deliveries, from 1 on
-abbrev pub delivery_reply : List RootSpec → Account → List ℕ → ℕ → Reply
-delivery_reply roots account mailbox octets =
-    if has_mailbox account mailbox then over_or (over_in roots account mailbox octets) (Delivered (account.deliveries + 1)) else NoMailbox
-
 -- what the account answers
 abbrev pub reply_of : List RootSpec → Account → Call → Reply
 reply_of roots account (Deliver mailbox octets flags) = delivery_reply roots account mailbox octets
 reply_of roots account (Check octets) = over_or (over_in roots account (codes "INBOX") octets) Fits
+reply_of roots account (Remove mailbox base) = message_reply account mailbox base Removed
+reply_of roots account (Mark mailbox base flags) = message_reply account mailbox base Marked
+reply_of roots account (Move from base to) = move_reply roots account from base to
 reply_of roots account (QuotaCall name) = quota_reply (named roots account name)
 reply_of roots account (SetLimits name limits) = limits_reply limits (named roots account name)
 reply_of roots account (RootsCall mailbox) = Roots (governing_rows roots account mailbox)
+reply_of roots account (Status mailbox) = status_reply account mailbox
+reply_of roots account ScanBegin = begun_reply roots account
+reply_of roots account (ScanPart index) = part_reply account index
+reply_of roots account (Install generation) = install_reply roots account generation
 
 -- the limits of each root, where the root at this place has these now
 abbrev pub limits_after : Option ℕ → LimitNumbers → List LimitNumbers → List LimitNumbers
 limits_after None limits all = all
 limits_after (Some at) limits all = set all at limits
 
--- the message that the delivery of this number brings
-abbrev pub delivered_message : ℕ → ℕ → List ℕ → ℕ → Flags → Message
-delivered_message epoch number mailbox octets flags = record { mailbox = mailbox; base = delivered_base epoch number; octets = octets; flags = flags }
-
--- the account after a delivery that was answered so: an accepted message stands at the end
-abbrev pub delivered_after : Account → List ℕ → ℕ → Flags → Reply → Account
-delivered_after account mailbox octets flags (Delivered number) = record account {
-  messages = account.messages ++ delivered_message account.epoch number mailbox octets flags ∷ [];
-  deliveries = number;
-}
-delivered_after account mailbox octets flags given = account
-
 -- the account after the call
 abbrev pub step : List RootSpec → Account → Call → Account
 step roots account (Deliver mailbox octets flags) = delivered_after account mailbox octets flags (delivery_reply roots account mailbox octets)
 step roots account (Check octets) = account
+step roots account (Remove mailbox base) = removed_after account mailbox base (message_reply account mailbox base Removed)
+step roots account (Mark mailbox base flags) = marked_after account mailbox base flags (message_reply account mailbox base Marked)
+step roots account (Move from base to) = moved_after account from base to (move_reply roots account from base to)
 step roots account (QuotaCall name) = account
 step roots account (SetLimits name limits) = record account { limits = limits_after (place_of roots name) limits account.limits }
 step roots account (RootsCall mailbox) = account
+step roots account (Status mailbox) = account
+step roots account ScanBegin = account
+step roots account (ScanPart index) = account
+step roots account (Install generation) = account

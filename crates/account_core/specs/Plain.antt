@@ -3,7 +3,7 @@ use Rattle.std.specs.Prelude.{[], ◌∷◌, codes, None, bytes_eq, if◌then◌
 use Rattle.quota_units.specs.Limiting.{LimitNumbers}
 use Rattle.quota_roots.specs.declared.root.RootSpec.{RootSpec}
 use Rattle.account_core.specs.declared.calls.Call.{Call}
-use Rattle.account_core.specs.declared.calls.Call.TheVariants.{Deliver, Check, Quota, SetLimits, Roots}
+use Rattle.account_core.specs.declared.calls.Call.TheVariants.{Deliver, Check, Remove, Mark, Move, Quota, SetLimits, Roots, Status, ScanBegin, ScanPart, Install}
 use Rattle.account_core.specs.declared.calls.Reply.{Reply}
 use Rattle.account_core.specs.Account.{Account, Opened}
 use Rattle.account_core.specs.Machine.{reply_of}
@@ -13,7 +13,7 @@ plain_root = record { name = []; prefix = None }
 
 -- such an account with these limits
 abbrev pub plain_account : LimitNumbers → Account
-plain_account limits = record { limits = limits ∷ []; mailboxes = codes "INBOX" ∷ codes "Trash" ∷ []; messages = []; deliveries = 0; epoch = 0 }
+plain_account limits = record { limits = limits ∷ []; mailboxes = codes "INBOX" ∷ codes "Trash" ∷ []; messages = []; deliveries = 0; epoch = 0; generation = 0 }
 
 abbrev pub plain_opened : LimitNumbers → Opened
 plain_opened limits = record { roots = plain_root ∷ []; journal = 65536; account = plain_account limits }
@@ -25,6 +25,13 @@ IsPlainCall (Check octets) = ⊥
 IsPlainCall (Quota name) = Unit {0}
 IsPlainCall (SetLimits name limits) = Unit {0}
 IsPlainCall (Roots mailbox) = Unit {0}
+IsPlainCall (Remove mailbox base) = ⊥
+IsPlainCall (Mark mailbox base flags) = ⊥
+IsPlainCall (Move from base to) = ⊥
+IsPlainCall (Status mailbox) = ⊥
+IsPlainCall ScanBegin = ⊥
+IsPlainCall (ScanPart index) = ⊥
+IsPlainCall (Install generation) = ⊥
 
 -- what it is answered while the root has these limits
 abbrev pub plain_reply : Call → LimitNumbers → Reply
@@ -37,3 +44,10 @@ plain_limits (Check octets) limits = limits
 plain_limits (Quota name) limits = limits
 plain_limits (SetLimits name others) limits = if bytes_eq [] name then others else limits
 plain_limits (Roots mailbox) limits = limits
+plain_limits (Remove mailbox base) limits = limits
+plain_limits (Mark mailbox base flags) limits = limits
+plain_limits (Move from base to) limits = limits
+plain_limits (Status mailbox) limits = limits
+plain_limits ScanBegin limits = limits
+plain_limits (ScanPart index) limits = limits
+plain_limits (Install generation) limits = limits

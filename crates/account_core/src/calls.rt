@@ -1,7 +1,7 @@
 ghost use Rattle.std.specs.Prelude.{◌≡◌};
 ghost use Rattle.account_core.specs.declared.calls.StepError.TheVariants.{NoMemory};
 
-use crate::RootRows;
+use crate::{RootRows, RootSets, TotalsList};
 use quota_units::{Flags, Limits, Name, Resource};
 use std::alloc::{AllocError, AllocFailed};
 use thiserror::Error;
@@ -19,6 +19,23 @@ pub enum Call {
     Check {
         octets: u64,
     },
+    /// The message that the mailbox and the base name is taken away. A mailbox and a base name the first message that has both.
+    Remove {
+        mailbox: Name,
+        base: Name,
+    },
+    /// The message that the mailbox and the base name has these flags from now on.
+    Mark {
+        mailbox: Name,
+        base: Name,
+        flags: Flags,
+    },
+    /// The message that the mailbox and the base name goes to another mailbox.
+    Move {
+        from: Name,
+        base: Name,
+        to: Name,
+    },
     /// The usage and the limits of the root of this name.
     Quota {
         root: Name,
@@ -31,6 +48,20 @@ pub enum Call {
     /// The roots that govern the mailbox of this name, which need not exist.
     Roots {
         mailbox: Name,
+    },
+    /// How many messages the mailbox of this name has, with their octets (RFC 9051, section 6.3.11; RFC 9208, section 4.1.4).
+    Status {
+        mailbox: Name,
+    },
+    /// A scan of the account begins.
+    ScanBegin,
+    /// What the messages of the mailbox at this place, from 0 on, add up to.
+    ScanPart {
+        index: u32,
+    },
+    /// The totals of a scan that was begun at this generation are the usages.
+    Install {
+        generation: u64,
     },
 }
 
@@ -49,11 +80,26 @@ pub enum Reply {
     /// The account has no mailbox of that name.
     NoMailbox,
     /// The message would take this resource of this root above its limit (RFC 9208, section 4.3.1).
-    Over { root: u32, resource: Resource },
+    Over {
+        root: u32,
+        resource: Resource,
+    },
     /// The message was accepted, as the delivery of this number, from 1 on.
-    Delivered { number: u64 },
+    Delivered {
+        number: u64,
+    },
     /// The message would stay within every limit.
     Fits,
+    /// The mailbox has no message of that base.
+    NoMessage,
+    /// The message is gone.
+    Removed,
+    /// The message has these flags.
+    Marked,
+    /// The mailbox that the message was to go to has a message of that base.
+    NameTaken,
+    /// The message is in the mailbox that it was to go to.
+    Moved,
     /// No root has that name.
     NoRoot,
     /// The named root, as it is.
@@ -62,6 +108,38 @@ pub enum Reply {
     LimitsSet(RootRow),
     /// The roots that govern the mailbox, in order.
     Roots(RootRows),
+    /// The number of the mailbox's messages, of those that lack the flag S, and of those that have the flag T; the octets of the
+    /// latter, and those of all.
+    Status {
+        messages: u64,
+        unseen: u64,
+        deleted: u64,
+        deleted_octets: u64,
+        octets: u64,
+    },
+    /// The generation: how many deliveries, removals and moves between two mailboxes were made; and the roots that govern each
+    /// mailbox, in the order of the mailboxes.
+    Begun {
+        generation: u64,
+        sets: RootSets,
+    },
+    /// The account has no mailbox at that place.
+    NoPart,
+    /// The generation, and the octets and the number of the mailbox's messages.
+    Part {
+        generation: u64,
+        octets: u64,
+        count: u64,
+    },
+    /// The messages changed since the scan was begun: its generation then, and the generation now.
+    Changed {
+        then: u64,
+        now: u64,
+    },
+    /// The scan's totals are the usages, of each root in order.
+    Installed {
+        usages: TotalsList,
+    },
 }
 
 /// One call in the history of an account: who made it, and whether a fault of the store took its effect.

@@ -1,4 +1,7 @@
-ghost use Rattle.account_core.specs.Legality.{NoneBroken, OverWhereNoFit};
+ghost use Rattle.account_core.specs.Generations.{EqualGenerationEqualUsage, GenerationIsCounted};
+ghost use Rattle.account_core.specs.Naming.{NamesStayApart};
+ghost use Rattle.account_core.specs.Worked.{MessagesAreCounted, MovesAreAnswered, ScansAreAnswered};
+ghost use Rattle.account_core.specs.Legality.{MoveOverWhereNoFit, NoneBroken, NoneBrokenByMoves, OverWhereNoFit};
 
 /// No accepted message breaks a limit, in any history.
 pub fn no_accepted_message_breaks_a_limit()
@@ -8,4 +11,41 @@ pub fn no_accepted_message_breaks_a_limit()
 /// A delivery and a check are answered that a root would be over its limit exactly where the message does not fit.
 pub fn over_exactly_where_a_message_does_not_fit()
     ensures { OverWhereNoFit }
+{}
+
+/// A message that is moved breaks no limit of a root that governs the mailbox it goes to and not the one it comes from, in any
+/// history.
+pub fn no_moved_message_breaks_a_limit()
+    ensures { NoneBrokenByMoves }
+{}
+
+/// A move is answered that a root would be over its limit exactly where nothing but such a limit keeps the message from the
+/// mailbox, and it does not fit.
+pub fn a_move_is_over_exactly_where_the_message_does_not_fit()
+    ensures { MoveOverWhereNoFit }
+{}
+
+/// The generation that the machine answers with is the number of deliveries, removals and moves between two mailboxes in the
+/// history.
+pub fn the_generation_counts_the_changes()
+    ensures { GenerationIsCounted }
+{}
+
+/// Where a history begins with another of the same generation, both leave the same messages but for their flags, and the same
+/// usage of every root.
+pub fn equal_generations_have_equal_usages()
+    ensures { EqualGenerationEqualUsage }
+{}
+
+/// A mailbox and a base name one message at most, in any history, where they did when the account was opened.
+pub fn names_stay_apart()
+    ensures { NamesStayApart }
+{}
+
+/// Worked accounts: moves out of Trash, into it and within a mailbox; messages that are moved, marked, removed and counted; and
+/// scans that are begun, made in parts, and installed or refused.
+pub fn worked_accounts_are_answered_so()
+    ensures moves { MovesAreAnswered }
+    ensures counts { MessagesAreCounted }
+    ensures scans { ScansAreAnswered }
 {}

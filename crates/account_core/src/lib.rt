@@ -7,13 +7,20 @@ mod delivered;
 mod laws;
 mod plain;
 mod rows;
+mod scans;
 
 pub use booked::Booked;
 pub use calls::{Call, Entry, Reply, RootRow, StepError};
 pub use delivered::{delivered_base, delivered_bases_differ};
-pub use laws::{no_accepted_message_breaks_a_limit, over_exactly_where_a_message_does_not_fit};
+pub use laws::{
+    a_move_is_over_exactly_where_the_message_does_not_fit, equal_generations_have_equal_usages,
+    names_stay_apart, no_accepted_message_breaks_a_limit, no_moved_message_breaks_a_limit,
+    over_exactly_where_a_message_does_not_fit, the_generation_counts_the_changes,
+    worked_accounts_are_answered_so,
+};
 pub use plain::PlainAccount;
 pub use rows::RootRows;
+pub use scans::{RootSets, TotalsList};
 
 #[cfg(test)]
 mod tests;

@@ -103,7 +103,15 @@ fn answer(alloc: Global, call: &Call, limits: Limits) -> Result<Reply, AllocErro
             }
             Ok(Reply::Roots(rows))
         }
-        Call::Deliver { .. } | Call::Check { .. } => unreachable!(),
+        Call::Deliver { .. }
+        | Call::Check { .. }
+        | Call::Remove { .. }
+        | Call::Mark { .. }
+        | Call::Move { .. }
+        | Call::Status { .. }
+        | Call::ScanBegin
+        | Call::ScanPart { .. }
+        | Call::Install { .. } => unreachable!(),
     }
 }
 

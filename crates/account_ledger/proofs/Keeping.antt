@@ -11,6 +11,7 @@ use Rattle.admission.specs.Fitting.{limits_at}
 use Rattle.account_core.specs.declared.calls.Entry.{Entry}
 use Rattle.account_core.specs.Account.{Account}
 use Rattle.account_core.specs.History.{replay}
+use Rattle.account_ledger.specs.declared.counts.Counts.{Counts}
 use Rattle.account_ledger.specs.declared.book.Book.{Book}
 use Rattle.account_ledger.specs.declared.book.Standing.TheVariants.{Settled}
 use Rattle.account_ledger.specs.Messages.{StandFor}
@@ -39,7 +40,7 @@ right_folded limits usage ledger octets count text short = record {
   sums = sum_of_one usage;
 }
 
-kept_folded : (limits : LimitNumbers) (usage scanned : Totals) (ledger : Option (List ℕ)) (book : Book) → scanned ≡ usage → scanned.octets < 2 ^ 63 → scanned.count < 2 ^ 63
+pub kept_folded : (limits : LimitNumbers) (usage scanned : Totals) (ledger : Option (List ℕ)) (book : Book) → scanned ≡ usage → scanned.octets < 2 ^ 63 → scanned.count < 2 ^ 63
     → book ≡ folded_book limits scanned → ledger ≡ Some (folded limits scanned) → length (folded limits scanned) < 5120 → IsKept limits usage ledger (bytes_of ledger) book
 kept_folded limits usage scanned ledger book same octets count book_is text short = record {
   totals = ap (λ (b : Book). b.totals) book_is ∙ same;
@@ -47,8 +48,8 @@ kept_folded limits usage scanned ledger book same octets count book_is text shor
   long = ap (λ (b : Book). b.length) book_is ∙ ap (λ l. length (bytes_of l)) (sym text);
 }
 
-module _ (setup : Setup) (limits : List LimitNumbers) (books books' : List Book) (deliveries entries : ℕ) (account : Account) (files files' : Files)
-    (holds : Holds setup limits books deliveries entries account files) (most : entries ≤ 524288) where
+module _ (setup : Setup) (limits : List LimitNumbers) (books books' : List Book) (counts : Counts) (entries : ℕ) (account : Account) (files files' : Files)
+    (holds : Holds setup limits books counts entries account files) (most : entries ≤ 524288) where
   kept_by : (may : Bool) (root : ℕ) → root < length setup.roots
       → SettlesOrStays may (limits_at limits root) (scan setup.roots root setup.mailboxes files.rows) (book_at books root) (book_at books' root) (ledger_at files root) (ledger_at files' root)
       → (book_at books' root).standing ≡ Settled → IsKept (limits_at limits root) (usage_at setup.roots root account) (ledger_at files' root) (ledger_bytes files' root) (book_at books' root)
@@ -64,11 +65,12 @@ module _ (setup : Setup) (limits : List LimitNumbers) (books books' : List Book)
       kept_folded (limits_at limits root) (usage_at setup.roots root account) (scan setup.roots root setup.mailboxes files.rows) (ledger_at files' root) (book_at books' root) scanned
       (omega arith) (omega arith) s.book_is s.ledger_is s.short
 
-  pub holds_settled : (may : ℕ → Bool) → Settling may setup.roots limits setup.mailboxes books books' files files' → Holds setup limits books' deliveries entries account files'
+  pub holds_settled : (may : ℕ → Bool) → Settling may setup.roots limits setup.mailboxes books books' files files' → Holds setup limits books' counts entries account files'
   holds_settled may settling = record {
     limits_are = holds.limits_are;
     mailboxes_are = holds.mailboxes_are;
     deliveries_are = holds.deliveries_are;
+    generation_is = holds.generation_is;
     stand = subst (λ rows. StandFor rows account) (sym settling.rows) holds.stand;
     bounded = holds.bounded;
     few = holds.few;
@@ -77,21 +79,22 @@ module _ (setup : Setup) (limits : List LimitNumbers) (books books' : List Book)
     kept = λ root inside settled. kept_by (may root) root inside (settling.each root) settled;
   }
 
-pub order_settled : (then now now' : Option Told) (faults_then faults faults' : ℕ) (setup : Setup) (epoch : ℕ) (limits : List LimitNumbers) (books books' : List Book) (deliveries : ℕ) (history : List Entry) (may : ℕ → Bool)
-    → InOrder then now faults_then faults setup epoch limits books deliveries history
+pub order_settled : (then now now' : Option Told) (faults_then faults faults' : ℕ) (setup : Setup) (epoch : ℕ) (limits : List LimitNumbers) (books books' : List Book) (counts : Counts) (history : List Entry) (may : ℕ → Bool)
+    → InOrder then now faults_then faults setup epoch limits books counts history
     → Changes (OnFiles (Settling may setup.roots limits setup.mailboxes books books')) now now'
     → Marks may books books' → All (λ (book : Book). AreSmall book.totals) books' → faults ≤ faults'
-    → InOrder then now' faults_then faults' setup epoch limits books' deliveries history
-order_settled then now now' faults_then faults faults' setup epoch limits books books' deliveries history may order changes marks small later = record {
+    → InOrder then now' faults_then faults' setup epoch limits books' counts history
+order_settled then now now' faults_then faults faults' setup epoch limits books books' counts history may order changes marks small later = record {
   sound = order.sound;
   within = order.within;
   served = order.served;
   excused = omega (arith, order.excused);
   delivered = order.delivered;
+      changed = order.changed;
   limits_each = order.limits_each;
   books_each = marks.count ∙ order.books_each;
   small = small;
   held = changes_then _ _ _
-      (λ x y z held settling. holds_settled setup limits books books' deliveries (length history) (replay setup.roots (opening_account setup epoch x.files) history) y.files z.files held (omega (arith, order.within, order.sound.most_room)) may settling)
+      (λ x y z held settling. holds_settled setup limits books books' counts (length history) (replay setup.roots (opening_account setup epoch x.files) history) y.files z.files held (omega (arith, order.within, order.sound.most_room)) may settling)
       then now now' order.held changes;
 }

@@ -19,6 +19,7 @@ use Rattle.message_names.specs.Sizes.{size_or, size_named}
 use Rattle.message_names.specs.Parts.{unique_of}
 use Rattle.account_core.specs.Account.{Message}
 use Rattle.account_core.specs.Delivering.{delivered_base}
+use Rattle.account_ledger.specs.declared.counts.Counts.{Counts}
 use Rattle.account_ledger.specs.declared.book.Book.{Book}
 use Rattle.account_ledger.specs.declared.book.Standing.TheVariants.{Settled, Doubt}
 use Rattle.account_ledger.specs.Messages.{message_in, messages_of, messages_in, is_message, how_many}
@@ -190,13 +191,17 @@ none_used epoch number mailbox (m ∷ mailboxes) rows none =
     neither true = refl
     neither false = refl
 
+abbrev pub none_counted : Counts
+none_counted = record { deliveries = 0; generation = 0 }
+
 pub holds_opened : (setup : Setup) (epoch : ℕ) (limits : List LimitNumbers) (books : List Book) (files : Files) → IsSound setup → limits ≡ opening_limits files setup.limits
     → ((root : ℕ) → (book_at books root).standing ≡ Doubt) → CanOpen setup epoch files
-    → Holds setup limits books 0 0 (opening_account setup epoch files) files
+    → Holds setup limits books none_counted 0 (opening_account setup epoch files) files
 holds_opened setup epoch limits books files sound told doubt can = record {
   limits_are = sym told;
   mailboxes_are = refl;
   deliveries_are = refl;
+  generation_is = refl;
   stand = λ weight. refl;
   bounded = let a = small_messages setup.mailboxes files.rows in let b = can.few in omega arith;
   few = let a = few_messages setup.mailboxes files.rows in let b = can.few in omega arith;
@@ -208,17 +213,18 @@ holds_opened setup epoch limits books files sound told doubt can = record {
 pub order_opened : (then now : Option Told) (faults_then faults : ℕ) (setup : Setup) (epoch : ℕ) (limits : List LimitNumbers) (books : List Book) → IsSound setup → faults_then ≤ faults
     → length limits ≡ length setup.roots → length books ≡ length setup.roots → ((root : ℕ) → (book_at books root).standing ≡ Doubt) → All (λ (book : Book). AreSmall book.totals) books
     → Changes (λ x y. (limits ≡ opening_limits x.files setup.limits) × (y.files ≡ x.files) × CanOpen setup epoch x.files) then now
-    → InOrder then now faults_then faults setup epoch limits books 0 []
+    → InOrder then now faults_then faults setup epoch limits books none_counted []
 order_opened then now faults_then faults setup epoch limits books sound later each kept doubt small told = record {
   sound = sound;
   within = omega arith;
   served = tt;
   excused = omega arith;
   delivered = omega arith;
+  changed = omega arith;
   limits_each = each;
   books_each = kept;
   small = small;
   held = changes_weaken _ _
-      (λ x y f. subst (λ fs. Holds setup limits books 0 0 (opening_account setup epoch x.files) fs) (sym f.1) (holds_opened setup epoch limits books x.files sound f.0 doubt f.2))
+      (λ x y f. subst (λ fs. Holds setup limits books none_counted 0 (opening_account setup epoch x.files) fs) (sym f.1) (holds_opened setup epoch limits books x.files sound f.0 doubt f.2))
       then now told;
 }

@@ -1,9 +1,9 @@
 -- From what is kept to what clauses see.
-use Rattle.std.proofs.Common.{◌≡◌, ◌⊎◌, ℕ, ◌<◌, Bool, true, List, length, get_or, Option, Some, None, refl, sym, ap, ◌∙◌, inl, inr, arith}
+use Rattle.std.proofs.Common.{◌≡◌, ◌⊎◌, ℕ, ◌<◌, ◌≤◌, Bool, true, List, length, get_or, Option, Some, None, refl, sym, ap, ◌∙◌, inl, inr, arith}
 use Rattle.std.specs.Prelude.{IfSome}
 use Rattle.std.specs.Option.{option_map}
 use Rattle.std.proofs.Math.ListN.{get_or-map}
-use Rattle.std.proofs.lemmas.List.{length-map, get_or_read}
+use Rattle.std.proofs.lemmas.List.{length-map, get_or_read, get_or_past}
 use Rattle.quota_units.specs.Limiting.{LimitNumbers}
 use Rattle.quota_roots.specs.declared.setup.Setup.{Setup}
 use Rattle.quota_roots.specs.declared.root.RootSpec.{RootSpec}
@@ -12,16 +12,20 @@ use Rattle.keeper.specs.Calls.{Told, Changes}
 use Rattle.account_core.specs.declared.calls.Entry.{Entry}
 use Rattle.account_core.specs.Account.{Account}
 use Rattle.account_core.specs.History.{replay}
+use Rattle.account_ledger.specs.declared.counts.Counts.{Counts}
 use Rattle.account_ledger.specs.declared.book.Book.{Book}
 use Rattle.account_ledger.specs.declared.book.Standing.{Standing}
-use Rattle.account_ledger.specs.declared.book.Standing.TheVariants.{Settled}
+use Rattle.account_ledger.specs.declared.book.Standing.TheVariants.{Settled, Doubt}
 use Rattle.account_ledger.specs.Settling.{OnFiles, no_book, book_at, standings_of, Settling, SettlesOrStays, Marks, MarksOne}
 use Rattle.account_ledger.specs.Opening.{opening_of, opening_account}
 use Rattle.account_ledger.specs.Scans.{scan}
 use Rattle.admission.specs.Fitting.{limits_at}
 use Rattle.account_ledger.specs.States.{standing_at, usage_at}
 use Rattle.account_ledger.specs.Order.{Holds, InOrder}
-use Rattle.account_ledger.specs.Serving.{SettlesLedgers, IsSettledNow}
+use Rattle.account_ledger.specs.Ledgers.{folded}
+use Rattle.account_ledger.specs.Serving.{SettlesLedgers, IsSettledNow, AreFolded}
+use Rattle.account_ledger.proofs.UsageLemmas.{scan_is_usage}
+use Rattle.std.proofs.lemmas.Bool.{cases_lt}
 use Rattle.std.specs.List.{range_with_len}
 use Rattle.quota_roots.specs.Governing.{governs_at, governing}
 use Rattle.admission.specs.Fitting.{first_over, totals_at}
@@ -59,23 +63,23 @@ module _ (may : ℕ → Bool) (roots : List RootSpec) (limits : List LimitNumber
       (λ x y settling. record { rows = settling.rows; each = λ root. ledger_settled x.files y.files root (settling.each root) })
 
 -- what holds of the account wherever what is kept stands for it
-pub of_account : (then now : Option Told) (faults_then faults : ℕ) (setup : Setup) (epoch : ℕ) (limits : List LimitNumbers) (books : List Book) (deliveries : ℕ) (history : List Entry) (P : Account → Type 0)
-    → ((account : Account) (files : Files) → Holds setup limits books deliveries (length history) account files → P account)
-    → InOrder then now faults_then faults setup epoch limits books deliveries history
+pub of_account : (then now : Option Told) (faults_then faults : ℕ) (setup : Setup) (epoch : ℕ) (limits : List LimitNumbers) (books : List Book) (counts : Counts) (history : List Entry) (P : Account → Type 0)
+    → ((account : Account) (files : Files) → Holds setup limits books counts (length history) account files → P account)
+    → InOrder then now faults_then faults setup epoch limits books counts history
     → IfSome (option_map (λ opening. replay setup.roots opening history) (opening_of setup epoch then)) P
-of_account then now faults_then faults setup epoch limits books deliveries history P fact order = by then now order.held
+of_account then now faults_then faults setup epoch limits books counts history P fact order = by then now order.held
   where
-    by : (t n : Option Told) → Changes (λ x y. Holds setup limits books deliveries (length history) (replay setup.roots (opening_account setup epoch x.files) history) y.files) t n
+    by : (t n : Option Told) → Changes (λ x y. Holds setup limits books counts (length history) (replay setup.roots (opening_account setup epoch x.files) history) y.files) t n
         → IfSome (option_map (λ opening. replay setup.roots opening history) (opening_of setup epoch t)) P
     by None n held = tt
     by (Some t) None held = absurd held
     by (Some t) (Some n) held = fact (replay setup.roots (opening_account setup epoch t.files) history) n.files held
 
-pub kept_totals : (then now : Option Told) (faults_then faults : ℕ) (setup : Setup) (epoch : ℕ) (limits : List LimitNumbers) (books : List Book) (deliveries : ℕ) (history : List Entry) (root : ℕ)
-    → root < length setup.roots → (book_at books root).standing ≡ Settled → InOrder then now faults_then faults setup epoch limits books deliveries history
+pub kept_totals : (then now : Option Told) (faults_then faults : ℕ) (setup : Setup) (epoch : ℕ) (limits : List LimitNumbers) (books : List Book) (counts : Counts) (history : List Entry) (root : ℕ)
+    → root < length setup.roots → (book_at books root).standing ≡ Settled → InOrder then now faults_then faults setup epoch limits books counts history
     → IfSome (option_map (λ opening. replay setup.roots opening history) (opening_of setup epoch then)) (λ account. (book_at books root).totals ≡ usage_at setup.roots root account)
-kept_totals then now faults_then faults setup epoch limits books deliveries history root inside settled =
-    of_account then now faults_then faults setup epoch limits books deliveries history (λ account. (book_at books root).totals ≡ usage_at setup.roots root account)
+kept_totals then now faults_then faults setup epoch limits books counts history root inside settled =
+    of_account then now faults_then faults setup epoch limits books counts history (λ account. (book_at books root).totals ≡ usage_at setup.roots root account)
     (λ account files holds. (holds.kept root inside settled).totals)
 
 -- what is read at a root's place
@@ -83,20 +87,20 @@ pub read_totals : (books : List Book) (root : ℕ) (book : Book) → root < leng
 read_totals books root book inside read = ap (λ (b : Book). b.totals) (get_or_read books root book inside read no_book)
 
 -- the limits that are kept are the account's
-pub own_limits : (then now : Option Told) (faults_then faults : ℕ) (setup : Setup) (epoch : ℕ) (limits : List LimitNumbers) (books : List Book) (deliveries : ℕ) (history : List Entry) (root : ℕ) (own : LimitNumbers)
-    → InOrder then now faults_then faults setup epoch limits books deliveries history → root < length setup.roots → own ≡ get_or limits root own
+pub own_limits : (then now : Option Told) (faults_then faults : ℕ) (setup : Setup) (epoch : ℕ) (limits : List LimitNumbers) (books : List Book) (counts : Counts) (history : List Entry) (root : ℕ) (own : LimitNumbers)
+    → InOrder then now faults_then faults setup epoch limits books counts history → root < length setup.roots → own ≡ get_or limits root own
     → IfSome (option_map (λ opening. replay setup.roots opening history) (opening_of setup epoch then)) (λ account. (own ≡ limits_at account.limits root) × (length account.limits ≡ length setup.roots))
-own_limits then now faults_then faults setup epoch limits books deliveries history root own order inside read =
-    of_account then now faults_then faults setup epoch limits books deliveries history (λ account. (own ≡ limits_at account.limits root) × (length account.limits ≡ length setup.roots))
+own_limits then now faults_then faults setup epoch limits books counts history root own order inside read =
+    of_account then now faults_then faults setup epoch limits books counts history (λ account. (own ≡ limits_at account.limits root) × (length account.limits ≡ length setup.roots))
     (λ account files holds. (
       get_or_read limits root own (omega (arith, order.limits_each)) read (record { octets = None; count = None }) ∙ ap (λ ls. limits_at ls root) (sym holds.limits_are),
       ap length holds.limits_are ∙ order.limits_each,
     )) order
 
-module _ (then now : Option Told) (faults_then faults : ℕ) (setup : Setup) (epoch : ℕ) (limits : List LimitNumbers) (books : List Book) (deliveries : ℕ) (history : List Entry) (mailbox : List ℕ)
-    (order : InOrder then now faults_then faults setup epoch limits books deliveries history)
+module _ (then now : Option Told) (faults_then faults : ℕ) (setup : Setup) (epoch : ℕ) (limits : List LimitNumbers) (books : List Book) (counts : Counts) (history : List Entry) (mailbox : List ℕ)
+    (order : InOrder then now faults_then faults setup epoch limits books counts history)
     (settled : (root : ℕ) → governs_at setup.roots root mailbox ≡ true → standing_at (standings_of books) root ≡ Settled) where
-  totals_here : (account : Account) (files : Files) → Holds setup limits books deliveries (length history) account files → (root : ℕ) → governs_at setup.roots root mailbox ≡ true
+  totals_here : (account : Account) (files : Files) → Holds setup limits books counts (length history) account files → (root : ℕ) → governs_at setup.roots root mailbox ≡ true
       → (book_at books root).totals ≡ usage_at setup.roots root account
   totals_here account files holds root governed =
       (holds.kept root (governed_inside setup.roots mailbox root governed) (sym (standing_of books root) ∙ settled root governed)).totals
@@ -104,7 +108,7 @@ module _ (then now : Option Told) (faults_then faults : ℕ) (setup : Setup) (ep
   totals_at_of : (bs : List Book) (root : ℕ) → totals_at (totals_of bs) root ≡ (book_at bs root).totals
   totals_at_of bs root = get_or-map (λ (b : Book). b.totals) bs root no_book
 
-  row_here : (account : Account) (files : Files) → Holds setup limits books deliveries (length history) account files → (root : ℕ) → governs_at setup.roots root mailbox ≡ true
+  row_here : (account : Account) (files : Files) → Holds setup limits books counts (length history) account files → (root : ℕ) → governs_at setup.roots root mailbox ≡ true
       → kept_row limits books root ≡ row_at setup.roots account.limits account root
   row_here account files holds root governed =
       let inside = governed_inside setup.roots mailbox root governed in
@@ -114,7 +118,7 @@ module _ (then now : Option Told) (faults_then faults : ℕ) (setup : Setup) (ep
   -- the rows that are kept are the machine's
   pub rows_are : IfSome (option_map (λ opening. replay setup.roots opening history) (opening_of setup epoch then)) (λ account. kept_rows setup.roots limits books mailbox ≡ governing_rows setup.roots account mailbox)
   rows_are =
-      of_account then now faults_then faults setup epoch limits books deliveries history (λ account. kept_rows setup.roots limits books mailbox ≡ governing_rows setup.roots account mailbox)
+      of_account then now faults_then faults setup epoch limits books counts history (λ account. kept_rows setup.roots limits books mailbox ≡ governing_rows setup.roots account mailbox)
       (λ account files holds.
       map_where (kept_row limits books) (row_at setup.roots account.limits account) (λ root. governs_at setup.roots root mailbox) (row_here account files holds) (range_with_len 0 (length setup.roots))
       ∙ sym (governing_rows_are setup.roots account mailbox (ap length holds.limits_are ∙ order.limits_each))) order
@@ -123,14 +127,51 @@ module _ (then now : Option Told) (faults_then faults : ℕ) (setup : Setup) (ep
   pub over_is : (octets : ℕ) → IfSome (option_map (λ opening. replay setup.roots opening history) (opening_of setup epoch then))
       (λ account. first_over limits (totals_of books) (governing setup.roots mailbox) octets ≡ over_in setup.roots account mailbox octets)
   over_is octets =
-      of_account then now faults_then faults setup epoch limits books deliveries history (λ account. first_over limits (totals_of books) (governing setup.roots mailbox) octets ≡ over_in setup.roots account mailbox octets)
+      of_account then now faults_then faults setup epoch limits books counts history (λ account. first_over limits (totals_of books) (governing setup.roots mailbox) octets ≡ over_in setup.roots account mailbox octets)
       (λ account files holds.
       first_over_where setup.roots mailbox limits (totals_of books) (usages setup.roots account) octets (λ root governed. totals_at_of books root ∙ totals_here account files holds root governed)
       ∙ ap (λ ls. first_over ls (usages setup.roots account) (governing setup.roots mailbox) octets) (sym holds.limits_are)) order
 
-pub limits_each : (then now : Option Told) (faults_then faults : ℕ) (setup : Setup) (epoch : ℕ) (limits : List LimitNumbers) (books : List Book) (deliveries : ℕ) (history : List Entry)
-    → InOrder then now faults_then faults setup epoch limits books deliveries history
+pub limits_each : (then now : Option Told) (faults_then faults : ℕ) (setup : Setup) (epoch : ℕ) (limits : List LimitNumbers) (books : List Book) (counts : Counts) (history : List Entry)
+    → InOrder then now faults_then faults setup epoch limits books counts history
     → IfSome (option_map (λ opening. replay setup.roots opening history) (opening_of setup epoch then)) (λ account. length account.limits ≡ length setup.roots)
-limits_each then now faults_then faults setup epoch limits books deliveries history order =
-    of_account then now faults_then faults setup epoch limits books deliveries history (λ account. length account.limits ≡ length setup.roots)
+limits_each then now faults_then faults setup epoch limits books counts history order =
+    of_account then now faults_then faults setup epoch limits books counts history (λ account. length account.limits ≡ length setup.roots)
     (λ account files holds. ap length holds.limits_are ∙ order.limits_each) order
+
+-- the ledger of a root that is settled now is the folded text of its limits and its usage
+module _ (may : ℕ → Bool) (setup : Setup) (limits : List LimitNumbers) (books books' : List Book) (counts : Counts) (entries : ℕ) (account : Account) (files files' : Files)
+    (holds : Holds setup limits books counts entries account files) (most : entries ≤ 524288) (each : length limits ≡ length setup.roots) where
+  one_folded : (root : ℕ) → root < length setup.roots
+      → SettlesOrStays (may root) (limits_at limits root) (scan setup.roots root setup.mailboxes files.rows) (book_at books root) (book_at books' root) (ledger_at files root) (ledger_at files' root)
+      → (book_at books root).standing ≡ Doubt → (book_at books' root).standing ≡ Settled
+      → ledger_at files' root ≡ Some (folded (limits_at account.limits root) (usage_at setup.roots root account))
+  one_folded root inside (inl stays) doubt settled = let e : Settled ≡ Doubt = sym settled ∙ ap (λ (b : Book). b.standing) stays.book_is ∙ doubt in absurd (cc)
+  one_folded root inside (inr (is, s)) doubt settled =
+      s.ledger_is ∙ ap (λ u. Some (folded (limits_at limits root) u)) (scan_is_usage setup.roots root inside account setup.mailboxes files.rows holds.mailboxes_are holds.stand entries most holds.bounded holds.few)
+      ∙ ap (λ ls. Some (folded (limits_at ls root) (usage_at setup.roots root account))) (sym holds.limits_are)
+
+  pub each_folded : (length books' ≡ length setup.roots) → Settling may setup.roots limits setup.mailboxes books books' files files'
+      → AreFolded setup.roots account (standings_of books) (standings_of books') files files'
+  each_folded count settling root doubt settled =
+      let now = sym (standing_of books' root) ∙ settled in
+      elim (cases_lt root (length setup.roots)) [
+        | inl inside ↦ one_folded root inside (settling.each root) (sym (standing_of books root) ∙ doubt) now
+        | inr past ↦ let e : Settled ≡ Doubt = sym now ∙ ap (λ (b : Book). b.standing) (get_or_past books' root no_book (omega (arith, past))) in absurd (cc)
+      ]
+
+pub texts_settled : (then now now' : Option Told) (faults_then faults : ℕ) (setup : Setup) (epoch : ℕ) (limits : List LimitNumbers) (books books' : List Book) (counts : Counts) (history : List Entry) (may : ℕ → Bool)
+    → InOrder then now faults_then faults setup epoch limits books counts history
+    → Marks may books books' → Changes (OnFiles (Settling may setup.roots limits setup.mailboxes books books')) now now'
+    → IfSome (option_map (λ opening. replay setup.roots opening history) (opening_of setup epoch then)) (λ account. Changes (OnFiles (AreFolded setup.roots account (standings_of books) (standings_of books'))) now now')
+texts_settled then now now' faults_then faults setup epoch limits books books' counts history may order marks settling = by then now now' order.held settling
+  where
+    by : (t n n' : Option Told) → Changes (λ x y. Holds setup limits books counts (length history) (replay setup.roots (opening_account setup epoch x.files) history) y.files) t n
+        → Changes (OnFiles (Settling may setup.roots limits setup.mailboxes books books')) n n'
+        → IfSome (option_map (λ opening. replay setup.roots opening history) (opening_of setup epoch t)) (λ account. Changes (OnFiles (AreFolded setup.roots account (standings_of books) (standings_of books'))) n n')
+    by None n n' held s = tt
+    by (Some t) None n' held s = absurd held
+    by (Some t) (Some n) None held s = absurd s
+    by (Some t) (Some n) (Some n') held s =
+        each_folded may setup limits books books' counts (length history) (replay setup.roots (opening_account setup epoch t.files) history) n.files n'.files held
+        (omega (arith, order.within, order.sound.most_room)) order.limits_each (marks.count ∙ order.books_each) s

@@ -13,10 +13,10 @@ use Rattle.account_ledger.specs.Scans.{cut, scan, scanned_octets, scanned_count,
 use Rattle.account_ledger.specs.States.{usage_at}
 use Rattle.account_ledger.proofs.Sums.{same_sums, sum_map, sum_flat_map, sum_ones, sum_where}
 
-abbrev no_root : RootSpec
+abbrev pub no_root : RootSpec
 no_root = record { name = []; prefix = None }
 
-at_most : (b : Bool) (n : ℕ) → cond b n 0 ≤ n
+pub at_most : (b : Bool) (n : ℕ) → cond b n 0 ≤ n
 at_most true n = omega arith
 at_most false n = omega arith
 
@@ -50,8 +50,8 @@ module _ (roots : List RootSpec) (root : ℕ) (inside : root < length roots) (ac
       ∙ ap (λ ms. counted spec (λ m. m.octets) (messages_in ms rows)) (sym same)
       ∙ stand (λ (m : Message). cond (governs spec m.mailbox) m.octets 0)
 
-  counts_are : scanned_count roots root mailboxes rows ≡ (usage spec account).count
-  counts_are =
+  deliveries_are : scanned_count roots root mailboxes rows ≡ (usage spec account).count
+  deliveries_are =
       same_sums (λ m. cond (governs_at roots root m) (length (listed m rows)) 0) (λ m. cond (governs_at roots root m) (sum_by (λ (f : FileRow). 1) (listed m rows)) 0) mailboxes
       (λ m. ap (λ n. cond (governs_at roots root m) n 0) (sym (sum_ones (listed m rows))))
       ∙ sym (counted_in roots root inside rows (λ m. 1) (λ f. 1) (λ mailbox file. refl) mailboxes)
@@ -62,7 +62,7 @@ module _ (roots : List RootSpec) (root : ℕ) (inside : root < length roots) (ac
       → scan roots root mailboxes rows ≡ usage_at roots root account
   scan_is_usage entries most bounded few =
       let o = octets_are in
-      let k = counts_are in
+      let k = deliveries_are in
       let a : (usage spec account).octets ≤ sum_by (λ (m : Message). m.octets) account.messages =
       sum_by-le-sum_by (λ (m : Message). cond (governs spec m.mailbox) m.octets 0) (λ (m : Message). m.octets) account.messages (λ m. at_most (governs spec m.mailbox) m.octets) in
       let b : (usage spec account).count ≤ sum_by (λ (m : Message). 1) account.messages =

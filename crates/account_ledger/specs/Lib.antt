@@ -3,7 +3,9 @@ pub mod Scans
 pub mod Scanning
 pub mod Ledgers
 pub mod Settling
+pub mod Lines
 pub mod Opening
+pub mod NamedFiles
 pub mod States
 pub mod Rows
 pub mod Order

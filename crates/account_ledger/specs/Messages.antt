@@ -1,10 +1,11 @@
 -- The messages that the files of an account's mailboxes tell.
-use Rattle.std.specs.Prelude.{◌≡◌, ℕ, Bool, ◌&&◌, if◌then◌else◌, List, map, sum_by, bytes_eq}
+use Rattle.std.specs.Prelude.{◌≡◌, ℕ, List, map, sum_by}
 use Rattle.std.specs.List.{flat_map}
 use Rattle.keeper.specs.Files.{Row, listed}
 use Rattle.keeper.specs.declared.rows.FileRow.{FileRow}
 use Rattle.message_names.specs.Messages.{message_of}
 use Rattle.account_core.specs.Account.{Account, Message}
+pub use Rattle.account_core.specs.Messages.{is_message, how_many}
 
 -- the message that a file of a mailbox tells
 abbrev pub message_in : List ℕ → FileRow → Message
@@ -30,10 +31,3 @@ AreSame messages others = (weight : Message → ℕ) → sum_by weight messages 
 -- the files in the account's mailboxes and its messages correspond one to one
 abbrev pub StandFor : List Row → Account → Type 0
 StandFor rows account = AreSame (messages_in account.mailboxes rows) account.messages
-
-abbrev pub is_message : List ℕ → List ℕ → Message → Bool
-is_message mailbox base message = bytes_eq message.mailbox mailbox && bytes_eq message.base base
-
--- how many of the messages are of this mailbox and base
-abbrev pub how_many : List ℕ → List ℕ → List Message → ℕ
-how_many mailbox base messages = sum_by (λ m. if is_message mailbox base m then 1 else 0) messages

@@ -33,6 +33,7 @@ opening_account setup epoch files = record {
   messages = messages_in setup.mailboxes files.rows;
   deliveries = 0;
   epoch = epoch;
+  generation = 0;
 }
 
 -- where the files are told

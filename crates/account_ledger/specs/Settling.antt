@@ -26,6 +26,9 @@ book_at books root = slice_index_or books root no_book
 abbrev pub standings_of : List Book → List Standing
 standings_of books = map (λ book. book.standing) books
 
+abbrev pub lengths_of : List Book → List ℕ
+lengths_of books = map (λ book. book.length) books
+
 -- what is kept of a root whose ledger is folded
 abbrev pub folded_book : LimitNumbers → Totals → Book
 folded_book limits totals = record { totals = totals; standing = Settled; length = length (folded limits totals) }

@@ -30,8 +30,9 @@ pub record State : Type 0 where
   -- the entries since, and for how many entries memory is held
   pub history : List Entry
   pub reserved : ℕ
-  -- of each root
+  -- of each root; and the length of the ledger of each that is settled, in bytes
   pub standings : List Standing
+  pub lengths : List ℕ
 
 -- the account now, where the opening one is told
 abbrev pub account_of : State → Option Account
@@ -39,6 +40,9 @@ account_of s = option_map (λ opening. replay s.setup.roots opening s.history) s
 
 abbrev pub standing_at : List Standing → ℕ → Standing
 standing_at standings root = slice_index_or standings root Doubt
+
+abbrev pub length_at : List ℕ → ℕ → ℕ
+length_at lengths root = slice_index_or lengths root 0
 
 -- the usage of the root of this number
 abbrev pub usage_at : List RootSpec → ℕ → Account → Totals

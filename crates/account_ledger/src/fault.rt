@@ -1,8 +1,9 @@
-ghost use Rattle.std.specs.Prelude.{◌≡◌, ℕ, Option};
+ghost use Rattle.std.specs.Prelude.{◌≡◌, ℕ, false, Option};
 ghost use Rattle.quota_units.specs.declared.resource.Resource.{Resource};
 ghost use Rattle.account_core.specs.Machine.{over_or};
 ghost use Rattle.account_ledger.specs.Faults.{step_error};
 ghost use Rattle.account_ledger.specs.Rows.{IsVerdict};
+ghost use Rattle.account_ledger.specs.Serving.{misses};
 
 use account_core::{Reply, StepError};
 use admission::Verdict;
@@ -20,7 +21,8 @@ pub(crate) fn step_error(fault: KeepError) -> StepError
 
 /// What a check is answered, by the verdict on its message.
 pub(crate) fn check_reply(verdict: Verdict) -> Reply
-    ensures { (over : Option (ℕ × Resource)) → IsVerdict over verdict → result ≡ over_or over Reply.Fits }
+    ensures reply { (over : Option (ℕ × Resource)) → IsVerdict over verdict → result ≡ over_or over Reply.Fits }
+    ensures there { misses result ≡ false }
 {
     match verdict {
         Verdict::Fits => Reply::Fits,

@@ -2,8 +2,16 @@
 #![tactic(auto)]
 
 mod book;
+mod change;
+mod counts;
+mod deliver;
 mod fault;
+mod limits;
+mod lines;
+mod marks;
+mod named;
 mod open;
+mod remove;
 mod rows;
 mod scan;
 mod settle;

@@ -28,8 +28,9 @@ pub(crate) fn cut_sum(totals: Totals, more: Totals) -> Totals
 }
 
 /// The octets of the message that a file tells.
-fn size_of_file(file: &FileRow) -> u64
+pub(crate) fn size_of_file(file: &FileRow) -> u64
     ensures value { result ≡ size_of_file file.now }
+    ensures cut { result < 1000000000000000000 }
     ensures small { result < 2 ^ 62 }
 {
     size_of(&parse_name(file.name.as_slice()), file.length)

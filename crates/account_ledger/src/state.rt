@@ -1,13 +1,13 @@
 // The state of an account.
-ghost use Rattle.std.specs.Prelude.{◌≡◌, ◌≢◌, ◌<◌, ◌≤◌, ◌+◌, ◌-◌, ◌^◌, ◌↔◌, ◌++◌, ◌∷◌, [], min, ℕ, true, IsTrue, length, nat_eq, codes, IfOk, IfErr, IfSome, OnOk};
+ghost use Rattle.std.specs.Prelude.{◌≡◌, ◌≢◌, ◌<◌, ◌≤◌, ◌+◌, ◌-◌, ◌^◌, ◌↔◌, ◌++◌, ◌∷◌, [], min, ℕ, true, false, IsTrue, length, nat_eq, codes, IfOk, IfErr, IfSome, OnOk};
 ghost use Rattle.quota_roots.specs.RootLists.{place_of};
 ghost use Rattle.admission.specs.Fitting.{limits_at};
 ghost use Rattle.quota_roots.specs.Governing.{governs_at};
 ghost use Rattle.account_core.specs.Machine.{governing_rows, over_in, reply_of};
 ghost use Rattle.account_ledger.specs.Rows.{IsVerdict};
-ghost use Rattle.keeper.specs.Causes.{HasCause};
+ghost use Rattle.keeper.specs.Causes.{HasCause, Rose};
 ghost use Rattle.account_ledger.specs.Order.{IsInOrder};
-ghost use Rattle.account_ledger.specs.Serving.{Opened, OfAccount, SettlesSome, Enters, IsQuestion, Leaves, is_place, needs};
+ghost use Rattle.account_ledger.specs.Serving.{Opened, OfAccount, SettlesSome, Enters, HasBytes, IsQuestion, IsServed, Leaves, Serves, ServesLedgers, ServesRows, is_place, misses, needs};
 ghost use Rattle.account_core.specs.Legality.{MayBeServed, fault_count};
 ghost use Rattle.account_core.specs.History.{entry_of};
 ghost use Rattle.keeper.specs.Calls.{Changes};
@@ -18,6 +18,7 @@ ghost use Rattle.account_ledger.specs.States.{IsOpened, standing_at, usage_at};
 ghost use Rattle.account_ledger.specs.declared.book.Standing.TheVariants.{Settled};
 
 use crate::book::{Book, Standing};
+use crate::counts::Counts;
 use crate::fault::{check_reply, step_error};
 use crate::open::{OpenError, OpenFault, admit_files, doubtful};
 use crate::rows::{are_limits, rows_of, totals_of};
@@ -37,20 +38,20 @@ use std::snapshot::Snapshot;
 /// Contracts see what the keeper tells and counts, what the account was opened with, the history and the standings of the roots.
 #[derive(Drop)]
 pub struct AccountState<K: Keeper> {
-    keeper: K,
-    opened: Snapshot<K>,
-    setup: Setup,
-    epoch: u64,
-    limits: Vec<Limits>,
-    books: Vec<Book>,
-    deliveries: u64,
-    history: Vec<Entry>,
+    pub(crate) keeper: K,
+    pub(crate) opened: Snapshot<K>,
+    pub(crate) setup: Setup,
+    pub(crate) epoch: u64,
+    pub(crate) limits: Vec<Limits>,
+    pub(crate) books: Vec<Book>,
+    pub(crate) counts: Counts,
+    pub(crate) history: Vec<Entry>,
 }
 
 impl<K: Keeper> Model for AccountState<K> {
     ghost use Rattle.std.specs.Prelude.{vec_capacity};
     ghost use Rattle.account_ledger.specs.States.{State};
-    ghost use Rattle.account_ledger.specs.Settling.{standings_of};
+    ghost use Rattle.account_ledger.specs.Settling.{standings_of, lengths_of};
     ghost use Rattle.account_ledger.specs.Opening.{opening_of};
     ghost use Rattle.account_ledger.specs.Order.{InOrder};
 
@@ -68,9 +69,10 @@ impl<K: Keeper> Model for AccountState<K> {
       history = a.history.items;
       reserved = vec_capacity a.history;
       standings = standings_of a.books.items;
+      lengths = lengths_of a.books.items;
     } };
 
-    ghost invariant = { λ a. InOrder (K.told a.opened.value) (K.told a.keeper) (K.faults a.opened.value) (K.faults a.keeper) a.setup a.epoch a.limits.items a.books.items a.deliveries a.history.items };
+    ghost invariant = { λ a. InOrder (K.told a.opened.value) (K.told a.keeper) (K.faults a.opened.value) (K.faults a.keeper) a.setup a.epoch a.limits.items a.books.items a.counts a.history.items };
 }
 
 impl<K: Keeper> AccountState<K> {
@@ -118,7 +120,10 @@ impl<K: Keeper> AccountState<K> {
             epoch,
             limits,
             books,
-            deliveries: 0,
+            counts: Counts {
+                deliveries: 0,
+                generation: 0,
+            },
             history: Vec::new(alloc),
         };
         state.is_in_order();
@@ -147,16 +152,20 @@ impl<K: Keeper> AccountState<K> {
         self.books[root as usize].standing
     }
 
-    /// Serves a call of this caller: a check, or a question on the quota of a root or on the roots of a mailbox.
+    /// Serves a call of this caller: a delivery, a check, a change of limits, or a question on the quota of a root or on the
+    /// roots of a mailbox.
     ///
-    /// `bytes` are the octets of a delivered message, and empty for these calls.
+    /// `bytes` are the octets of a delivered message, at most 67108864, and empty for the other calls.
+    ///
+    /// A delivery that is accepted writes one line into the ledger of each root of its mailbox, or folds the ledger where there
+    /// is no room. Where that fails the call is answered all the same, and that root is in doubt.
     ///
     /// # Errors
     ///
     /// `JournalFull` exactly where the history holds as many entries as the setup's journal allows; nothing changes then.
-    /// `Store` only where the store failed in this call; the entry has fault then. `NoMemory`: there is no entry.
+    /// `Store` only where the store failed in this call; the entry has fault then, and the messages and the limits are as before.
+    /// `NoMemory`: there is no entry, and the messages and the limits are as before.
     /// After each error a root that was settled still is.
-    #[tactic(auto, using(crate::proofs::Entering::question_leaves, crate::proofs::Entering::question_served, crate::proofs::Entering::excused_more))]
     pub fn serve(
         &mut self,
         alloc: Global,
@@ -164,14 +173,14 @@ impl<K: Keeper> AccountState<K> {
         call: Call,
         bytes: &[u8],
     ) -> Result<Reply, StepError>
-        requires question { IsQuestion call }
-        requires bytes { bytes.now ≡ [] }
+        requires served { IsServed call }
+        requires bytes { HasBytes call bytes.now }
         ensures opened { Opened self.old self.new }
         ensures enters { Enters caller call result self.old.history self.new.history }
         ensures reply { IfOk result (λ given. OfAccount self.old (λ account. given ≡ reply_of self.old.setup.roots account call)) }
-        ensures settled { OnOk result ((root : ℕ) → needs self.old.setup.roots call root ≡ true → standing_at self.new.standings root ≡ Settled) }
-        ensures settles { SettlesSome (needs self.old.setup.roots call) self.old self.new }
-        ensures cause { HasCause (result ≡ Err StepError.Store) self.old.faults self.new.faults }
+        ensures ledgers { ServesLedgers call result self.old self.new }
+        ensures rows { Changes (OnFiles (λ files files'. ServesRows self.old.epoch call bytes.now result files.rows files'.rows)) self.old.told self.new.told }
+        ensures cause { result ≡ Err StepError.Store → Rose self.old.faults self.new.faults }
         ensures full { (limit : ℕ) → (result ≡ Err (StepError.JournalFull limit)) ↔ ((length self.old.history ≡ self.old.setup.journal) × (limit ≡ self.old.setup.journal)) }
         ensures unchanged { (limit : ℕ) → result ≡ Err (StepError.JournalFull limit) → self.new ≡ self.old }
         ensures order { IsInOrder self.new }
@@ -183,17 +192,67 @@ impl<K: Keeper> AccountState<K> {
             });
         }
         self.reserve_entry()?;
-        let answer = self.answer(alloc, &call);
+        let answer = self.enter(alloc, caller, call, bytes);
         self.is_in_order();
+        answer
+    }
+
+    /// Serves a call, for whose entry there is room.
+    fn enter(
+        &mut self,
+        alloc: Global,
+        caller: u32,
+        call: Call,
+        bytes: &[u8],
+    ) -> Result<Reply, StepError>
+        requires served { IsServed call }
+        requires bytes { HasBytes call bytes.now }
+        requires room { length self.old.history < self.old.setup.journal }
+        requires held { length self.old.history < self.old.reserved }
+        ensures serves { Serves caller call bytes.now result self.old self.new }
+        ensures never_full { (limit : ℕ) → result ≢ Err (StepError.JournalFull limit) }
+    {
+        match call {
+            Call::Deliver {
+                mailbox,
+                octets,
+                flags,
+            } => self.deliver(alloc, caller, mailbox, octets, flags, bytes),
+            Call::SetLimits { root, limits } => self.set_limits(alloc, caller, root, limits),
+            Call::Remove { mailbox, base } => self.remove(alloc, caller, mailbox, base),
+            Call::Mark {
+                mailbox,
+                base,
+                flags,
+            } => self.mark(alloc, caller, mailbox, base, flags),
+            question => self.ask(alloc, caller, question, bytes),
+        }
+    }
+
+    /// Answers a question, and enters it.
+    #[tactic(auto, using(crate::proofs::Entering::question_leaves, crate::proofs::Entering::fault_leaves, crate::proofs::Entering::question_served, crate::proofs::Entering::excused_more))]
+    fn ask(
+        &mut self,
+        alloc: Global,
+        caller: u32,
+        call: Call,
+        bytes: &[u8],
+    ) -> Result<Reply, StepError>
+        requires question { IsQuestion call }
+        requires room { length self.old.history < self.old.setup.journal }
+        requires held { length self.old.history < self.old.reserved }
+        ensures serves { Serves caller call bytes.now result self.old self.new }
+        ensures never_full { (limit : ℕ) → result ≢ Err (StepError.JournalFull limit) }
+    {
+        self.is_in_order();
+        let answer = self.answer(alloc, &call);
         match answer {
             Ok(reply) => {
                 self.note(caller, call, false);
-                self.is_in_order();
                 Ok(reply)
             }
             Err(StepError::Store) => {
                 self.note(caller, call, true);
-                self.is_in_order();
                 Err(StepError::Store)
             }
             Err(fault) => Err(fault),
@@ -223,11 +282,11 @@ impl<K: Keeper> AccountState<K> {
     }
 
     /// Enters a call that leaves the account. It takes no memory.
-    fn note(&mut self, caller: u32, call: Call, fault: bool)
+    pub(crate) fn note(&mut self, caller: u32, call: Call, fault: bool)
         requires room { length self.old.history < self.old.setup.journal }
         requires held { length self.old.history < self.old.reserved }
         requires served { MayBeServed call }
-        requires leaves { Leaves self.old.setup.roots call fault }
+        requires leaves { OfAccount self.old (Leaves self.old.setup.roots call fault) }
         requires excused { min (self.old.first_faults + fault_count (self.old.history ++ entry_of caller call fault ∷ [])) (2 ^ 64 - 1) ≤ self.old.faults }
         ensures { self.new ≡ record self.old { history = self.old.history ++ entry_of caller call fault ∷ [] } }
     {
@@ -247,6 +306,7 @@ impl<K: Keeper> AccountState<K> {
         ensures reply { IfOk result (λ given. OfAccount self.old (λ account. given ≡ reply_of self.old.setup.roots account call.now)) }
         ensures settled { OnOk result ((root : ℕ) → needs self.old.setup.roots call.now root ≡ true → standing_at self.new.standings root ≡ Settled) }
         ensures settles { SettlesSome (needs self.old.setup.roots call.now) self.old self.new }
+        ensures missed { IfOk result (λ given. misses given ≡ true → (root : ℕ) → needs self.old.setup.roots call.now root ≡ false) }
         ensures cause { HasCause (result ≡ Err StepError.Store) self.old.faults self.new.faults }
         ensures never_full { (limit : ℕ) → result ≢ Err (StepError.JournalFull limit) }
     {
@@ -254,7 +314,15 @@ impl<K: Keeper> AccountState<K> {
             Call::Quota { root } => self.quota(alloc, root.as_slice()),
             Call::Roots { mailbox } => self.roots(alloc, mailbox.as_slice()),
             Call::Check { octets } => self.check(alloc, *octets),
-            Call::Deliver { .. } | Call::SetLimits { .. } => unreachable!(),
+            Call::Deliver { .. }
+            | Call::SetLimits { .. }
+            | Call::Remove { .. }
+            | Call::Mark { .. }
+            | Call::Move { .. }
+            | Call::Status { .. }
+            | Call::ScanBegin
+            | Call::ScanPart { .. }
+            | Call::Install { .. } => unreachable!(),
         }
     }
 
@@ -290,7 +358,7 @@ impl<K: Keeper> AccountState<K> {
     }
 
     /// Settles each root in doubt that governs the mailbox. It is no entry of the history.
-    fn settle_mailbox(&mut self, alloc: Global, mailbox: &[u8]) -> Result<(), StepError>
+    pub(crate) fn settle_mailbox(&mut self, alloc: Global, mailbox: &[u8]) -> Result<(), StepError>
         ensures opened { Opened self.old self.new }
         ensures history { self.new.history ≡ self.old.history }
         ensures reserved { self.new.reserved ≡ self.old.reserved }
@@ -322,7 +390,7 @@ impl<K: Keeper> AccountState<K> {
     }
 
     /// Whether a message fits the roots that govern the mailbox, which are settled.
-    fn verdict_of(&self, alloc: Global, mailbox: &[u8], octets: u64) -> Result<Verdict, AllocError>
+    pub(crate) fn verdict_of(&self, alloc: Global, mailbox: &[u8], octets: u64) -> Result<Verdict, AllocError>
         requires { (root : ℕ) → governs_at self.now.setup.roots root mailbox.now ≡ true → standing_at self.now.standings root ≡ Settled }
         ensures { IfOk result (λ verdict. OfAccount self.now (λ account. IsVerdict (over_in self.now.setup.roots account mailbox.now octets) verdict)) }
     {
@@ -347,6 +415,7 @@ impl<K: Keeper> AccountState<K> {
         ensures reply { IfOk result (λ given. OfAccount self.old (λ account. given ≡ reply_of self.old.setup.roots account (Call.Quota name.now))) }
         ensures settled { OnOk result ((root : ℕ) → is_place (place_of self.old.setup.roots name.now) root ≡ true → standing_at self.new.standings root ≡ Settled) }
         ensures settles { SettlesSome (is_place (place_of self.old.setup.roots name.now)) self.old self.new }
+        ensures missed { IfOk result (λ given. misses given ≡ true → (root : ℕ) → is_place (place_of self.old.setup.roots name.now) root ≡ false) }
         ensures cause { HasCause (result ≡ Err StepError.Store) self.old.faults self.new.faults }
         ensures never_full { (limit : ℕ) → result ≢ Err (StepError.JournalFull limit) }
     {
@@ -372,6 +441,7 @@ impl<K: Keeper> AccountState<K> {
         ensures reply { IfOk result (λ given. OfAccount self.old (λ account. given ≡ reply_of self.old.setup.roots account (Call.Roots mailbox.now))) }
         ensures settled { OnOk result ((root : ℕ) → governs_at self.old.setup.roots root mailbox.now ≡ true → standing_at self.new.standings root ≡ Settled) }
         ensures settles { SettlesSome (λ root. governs_at self.old.setup.roots root mailbox.now) self.old self.new }
+        ensures there { IfOk result (λ given. misses given ≡ false) }
         ensures cause { HasCause (result ≡ Err StepError.Store) self.old.faults self.new.faults }
         ensures never_full { (limit : ℕ) → result ≢ Err (StepError.JournalFull limit) }
     {
@@ -389,6 +459,7 @@ impl<K: Keeper> AccountState<K> {
         ensures reply { IfOk result (λ given. OfAccount self.old (λ account. given ≡ reply_of self.old.setup.roots account (Call.Check octets))) }
         ensures settled { OnOk result ((root : ℕ) → governs_at self.old.setup.roots root (codes "INBOX") ≡ true → standing_at self.new.standings root ≡ Settled) }
         ensures settles { SettlesSome (λ root. governs_at self.old.setup.roots root (codes "INBOX")) self.old self.new }
+        ensures there { IfOk result (λ given. misses given ≡ false) }
         ensures cause { HasCause (result ≡ Err StepError.Store) self.old.faults self.new.faults }
         ensures never_full { (limit : ℕ) → result ≢ Err (StepError.JournalFull limit) }
     {
@@ -399,14 +470,14 @@ impl<K: Keeper> AccountState<K> {
 
     /// The account has limits for each of its roots.
     #[tactic(auto, using(crate::proofs::Stating::limits_each))]
-    fn has_limits(&self) -> bool
+    pub(crate) fn has_limits(&self) -> bool
         ensures { OfAccount self.now (λ account. length account.limits ≡ length self.now.setup.roots) }
     {
         self.limits.is_empty()
     }
 
     /// The number of the root of this name.
-    fn find_root(&self, name: &[u8]) -> Option<u32>
+    pub(crate) fn find_root(&self, name: &[u8]) -> Option<u32>
         ensures place { result ≡ place_of self.now.setup.roots name.now }
         ensures inside { IfSome result (λ root. root < length self.now.setup.roots) }
     {

@@ -1,14 +1,14 @@
 -- The roots that govern a mailbox: one root more, and which they are.
-use Rattle.std.proofs.Common.{◌≡◌, ℕ, ◌+◌, ◌<◌, true, false, cond, ◌↔◌, List, [], ◌∷◌, ◌++◌, length, get_or, arith, sym, ◌∙◌, ap, inl, inr}
+use Rattle.std.proofs.Common.{◌≡◌, ℕ, ◌+◌, ◌<◌, true, false, not, ◌&&◌, cond, ◌↔◌, List, [], ◌∷◌, ◌++◌, length, get_or, arith, sym, ◌∙◌, ap, inl, inr, append-nil}
 use Rattle.std.specs.List.{All, Contains, filter, range_with_len}
 use Rattle.std.specs.Option.{option_map_or}
-use Rattle.std.proofs.lemmas.Bool.{and_parts, and_from, cases_lt, false≢true}
+use Rattle.std.proofs.lemmas.Bool.{and_parts, and_from, cases_lt, false≢true, not-true}
 use Rattle.std.proofs.lemmas.List.{map-id}
 use Rattle.std.proofs.lemmas.List.Elements.{filter-append, All-filter}
 use Rattle.std.proofs.lemmas.List.FromFn.{map-range_with_len_more, length-range_with_len, get_or-range_with_len}
 use Rattle.std.proofs.lemmas.Option.{slice_get-get_or, slice_get_past}
 use Rattle.quota_roots.specs.declared.root.RootSpec.{RootSpec}
-use Rattle.quota_roots.specs.Governing.{governs, governs_at, governing}
+use Rattle.quota_roots.specs.Governing.{governs, governs_at, governing, gains, gains_at, gaining}
 use Rattle.quota_roots.proofs.MemberLemmas.{is_in-from_Contains, Contains-from_is_in, is_in-filter, range-is_in}
 
 -- those below this number
@@ -46,4 +46,43 @@ governing_members roots mailbox root =
       λ has. (and_parts _ _ (sym both ∙ is_in-from_Contains _ root has)).1,
       λ governed. let inside = within roots mailbox root governed in
           Contains-from_is_in _ root (both ∙ and_from _ _ (range-is_in root (length roots) 0 (omega arith) (omega arith)) governed),
+    )
+
+-- the roots below this number that govern one mailbox and not another
+abbrev pub gaining_below : List RootSpec → List ℕ → List ℕ → ℕ → List ℕ
+gaining_below roots from to n = filter (λ root. gains_at roots root from to) (range_with_len 0 n)
+
+gaining_more : (roots : List RootSpec) (from to : List ℕ) (n : ℕ) → gaining_below roots from to (n + 1) ≡ gaining_below roots from to n ++ cond (gains_at roots n from to) (n ∷ []) []
+gaining_more roots from to n =
+    let p = λ (root : ℕ). gains_at roots root from to in
+    ap (filter p) (range_push n) ∙ filter-append p (range_with_len 0 n) (n ∷ [])
+
+gains_at_get_or : (roots : List RootSpec) (from to : List ℕ) (n : ℕ) (d : RootSpec) → n < length roots → gains_at roots n from to ≡ gains (get_or roots n d) from to
+gains_at_get_or roots from to n d inside =
+    ap (λ b. b && not (governs_at roots n from)) (governs_at_get_or roots to n d inside) ∙ ap (λ b. governs (get_or roots n d) to && not b) (governs_at_get_or roots from n d inside)
+
+-- one root more, that governs so or does not
+pub gaining_one : (roots : List RootSpec) (from to : List ℕ) (n : ℕ) (d : RootSpec) → n < length roots → gains (get_or roots n d) from to ≡ true → gaining_below roots from to (n + 1) ≡ gaining_below roots from to n ++ n ∷ []
+gaining_one roots from to n d inside is =
+    gaining_more roots from to n ∙ ap (λ b. gaining_below roots from to n ++ cond b (n ∷ []) []) (gains_at_get_or roots from to n d inside ∙ is)
+
+pub gaining_none : (roots : List RootSpec) (from to : List ℕ) (n : ℕ) (d : RootSpec) → n < length roots → gains (get_or roots n d) from to ≡ false → gaining_below roots from to (n + 1) ≡ gaining_below roots from to n
+gaining_none roots from to n d inside is =
+    gaining_more roots from to n ∙ ap (λ b. gaining_below roots from to n ++ cond b (n ∷ []) []) (gains_at_get_or roots from to n d inside ∙ is) ∙ append-nil (gaining_below roots from to n)
+
+pub gaining_all_below : (roots : List RootSpec) (from to : List ℕ) (n : ℕ) → All (λ root. root < n) (gaining_below roots from to n)
+gaining_all_below roots from to n =
+    All-filter (λ root. gains_at roots root from to) (λ root. root < n) (range_with_len 0 n)
+    (λ k d inside. omega (arith, inside, length-range_with_len 0 n, get_or-range_with_len 0 n k d (omega (arith, inside, length-range_with_len 0 n))))
+
+pub gaining_members : (roots : List RootSpec) (from to : List ℕ) (root : ℕ) → Contains (gaining roots from to) root ↔ ((governs_at roots root to ≡ true) × (governs_at roots root from ≡ false))
+gaining_members roots from to root =
+    let p = λ (k : ℕ). gains_at roots k from to in
+    let numbers = range_with_len 0 (length roots) in
+    let both = is_in-filter p root numbers in (
+      λ has. let is = (and_parts _ _ (sym both ∙ is_in-from_Contains _ root has)).1 in
+          let parts = and_parts _ _ is in
+          (parts.0, not-true _ parts.1),
+      λ governed. let inside = within roots to root governed.0 in
+          Contains-from_is_in _ root (both ∙ and_from _ _ (range-is_in root (length roots) 0 (omega arith) (omega arith)) (and_from _ _ governed.0 (ap not governed.1))),
     )

@@ -1,5 +1,5 @@
 -- Which roots govern which mailbox. Maildir++ counts every folder but Trash; the roots with a prefix are this project's own.
-use Rattle.std.specs.Prelude.{ℕ, Bool, false, not, ◌||◌, List, ◌++◌, length, filter, slice_get, codes, bytes_eq, nat_eq, Option, None, Some}
+use Rattle.std.specs.Prelude.{ℕ, Bool, false, not, ◌&&◌, ◌||◌, List, ◌++◌, length, filter, slice_get, codes, bytes_eq, nat_eq, Option, None, Some}
 use Rattle.std.specs.List.{starts_with, range_with_len}
 use Rattle.std.specs.Option.{option_map_or}
 use Rattle.quota_roots.specs.declared.root.RootSpec.{RootSpec}
@@ -23,3 +23,14 @@ governs_at roots root mailbox = option_map_or (λ spec. governs spec mailbox) (s
 -- the numbers of the roots that govern the mailbox, in order
 abbrev pub governing : List RootSpec → List ℕ → List ℕ
 governing roots mailbox = filter (λ root. governs_at roots root mailbox) (range_with_len 0 (length roots))
+
+-- the root governs the target of a move and not its source
+abbrev pub gains : RootSpec → List ℕ → List ℕ → Bool
+gains root from to = governs root to && not (governs root from)
+
+abbrev pub gains_at : List RootSpec → ℕ → List ℕ → List ℕ → Bool
+gains_at roots root from to = governs_at roots root to && not (governs_at roots root from)
+
+-- the numbers of those roots, in order
+abbrev pub gaining : List RootSpec → List ℕ → List ℕ → List ℕ
+gaining roots from to = filter (λ root. gains_at roots root from to) (range_with_len 0 (length roots))

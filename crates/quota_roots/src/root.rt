@@ -15,7 +15,7 @@ pub struct RootSpec {
 }
 
 impl RootSpec {
-    ghost use Rattle.quota_roots.specs.Governing.{governs, is_under};
+    ghost use Rattle.quota_roots.specs.Governing.{gains, governs, is_under};
 
     /// Whether the root governs the mailbox of this name.
     pub fn governs(&self, mailbox: &[u8]) -> bool
@@ -25,6 +25,13 @@ impl RootSpec {
             None => mailbox != b"Trash".as_slice(),
             Some(prefix) => Self::is_under(prefix.as_slice(), mailbox),
         }
+    }
+
+    /// Whether the root governs the mailbox `to` and not the mailbox `from`.
+    pub(crate) fn gains(&self, from: &[u8], to: &[u8]) -> bool
+        ensures { result ≡ gains self.now from.now to.now }
+    {
+        self.governs(to) && !self.governs(from)
     }
 
     /// An equal root.

@@ -1,6 +1,6 @@
-ghost use Rattle.std.specs.Prelude.{◌≡◌, ◌≤◌, ◌<◌, ◌↔◌, ℕ, length, position, All, Contains, IfSome, IsTrue, IfOk, IsErrOf, vec_len, codes, bytes_eq};
+ghost use Rattle.std.specs.Prelude.{◌≡◌, ◌≤◌, ◌<◌, ◌↔◌, ℕ, length, position, All, Contains, IfSome, IsTrue, IsFalse, IfOk, IsErrOf, vec_len, codes, bytes_eq};
 ghost use Rattle.std.specs.List.{list_all};
-ghost use Rattle.quota_roots.specs.Governing.{governs_at, governing};
+ghost use Rattle.quota_roots.specs.Governing.{governs_at, governing, gaining};
 ghost use Rattle.quota_units.specs.Bytes.{is_printable};
 ghost use Rattle.quota_roots.specs.RootLists.{first_bad_name, first_double, has_name, is_prefix_at, is_root_at, is_root_name, name_at, place_of, AreRoots, IsBadName, IsDouble, IsTooMany};
 
@@ -102,6 +102,21 @@ fn roots_of(specs: &[RootSpec], mailbox: &[u8]) -> RootSet
     let mut roots = RootSet::none();
     for (root, spec) in specs.iter().enumerate() {
         if spec.governs(mailbox) {
+            roots = roots.with(root as u32);
+        }
+    }
+    roots
+}
+
+#[tactic(auto, using(crate::proofs::GoverningLemmas::gaining_one, crate::proofs::GoverningLemmas::gaining_none, crate::proofs::GoverningLemmas::gaining_all_below))]
+fn gained(specs: &[RootSpec], from: &[u8], to: &[u8]) -> RootSet
+    requires { length specs.now ≤ 4 }
+    ensures value { result ≡ gaining specs.now from.now to.now }
+    ensures members { (root : ℕ) → Contains result root ↔ (IsTrue (governs_at specs.now root to.now) × IsFalse (governs_at specs.now root from.now)) }
+{
+    let mut roots = RootSet::none();
+    for (root, spec) in specs.iter().enumerate() {
+        if spec.gains(from, to) {
             roots = roots.with(root as u32);
         }
     }
@@ -217,5 +232,15 @@ impl Roots {
         ensures below { All (λ root. root < length self.now) result }
     {
         roots_of(&self.specs, mailbox)
+    }
+
+    /// The roots that govern the mailbox `to` and not the mailbox `from`: those that a message comes under when it is moved.
+    #[tactic(auto, using(crate::proofs::GoverningLemmas::gaining_all_below))]
+    pub fn gained(&self, from: &[u8], to: &[u8]) -> RootSet
+        ensures value { result ≡ gaining self.now from.now to.now }
+        ensures members { (root : ℕ) → Contains result root ↔ (IsTrue (governs_at self.now root to.now) × IsFalse (governs_at self.now root from.now)) }
+        ensures below { All (λ root. root < length self.now) result }
+    {
+        gained(&self.specs, from, to)
     }
 }

@@ -127,6 +127,26 @@ fn roots_are_found_by_name_and_by_mailbox(rt: HostRuntime) -> Result<(), Fail> {
 }
 
 #[test]
+fn a_move_gains_the_roots_of_the_target_alone(rt: HostRuntime) -> Result<(), Fail> {
+    let first = spec(rt.alloc(), b"", None)?;
+    let second = spec(rt.alloc(), b"lists", Some(b"Lists"))?;
+    let third = spec(rt.alloc(), b"old lists", Some(b"Lists.old"))?;
+    let roots = Roots::new(vec![in rt.alloc(); first, second, third]?)?;
+    let table: [(&[u8], &[u8], [bool; 3]); 5] = [
+        (b"Trash", b"Lists.old.a", [true, true, true]),
+        (b"INBOX", b"Lists.a", [false, true, false]),
+        (b"Lists.a", b"Lists.old", [false, false, true]),
+        (b"Lists.old", b"INBOX", [false, false, false]),
+        (b"INBOX", b"Trash", [false, false, false]),
+    ];
+    for (from, to, expected) in table {
+        let set = roots.gained(from, to);
+        assert_eq!(rt; [set.has(0), set.has(1), set.has(2)], expected);
+    }
+    Ok(())
+}
+
+#[test]
 fn more_than_four_roots_are_refused(rt: HostRuntime) -> Result<(), Fail> {
     let a = spec(rt.alloc(), b"", None)?;
     let b = spec(rt.alloc(), b"b", Some(b"B"))?;

@@ -7,7 +7,7 @@ use Rattle.quota_roots.specs.declared.root.RootSpec.{RootSpec}
 use Rattle.quota_roots.specs.RootLists.{name_at}
 use Rattle.imap_grammar.specs.Printing.{printed}
 use Rattle.account_core.specs.declared.calls.RootRow.{RootRow}
-use Rattle.account_core.specs.declared.calls.Reply.TheVariants.{NoMailbox, Over, Delivered, Fits, NoRoot, Quota, LimitsSet, Roots}
+use Rattle.account_core.specs.declared.calls.Reply.TheVariants.{NoMailbox, Over, Delivered, Fits, NoMessage, Removed, Marked, NameTaken, Moved, NoRoot, Quota, LimitsSet, Roots, Status, Begun, NoPart, Part, Changed, Installed}
 use Rattle.account_core.specs.History.{Answer, replied, store, journal_full}
 
 abbrev pub line_end : List ℕ
@@ -57,12 +57,23 @@ abbrev pub no_root_text : List ℕ → List ℕ
 no_root_text tag = tagged_line tag (codes "NO No such quota root")
 
 -- what answers a command by the answer to its call, where the account has these roots; the mailbox is that of GETQUOTAROOT.
--- No command asks whether a message would fit, so that nothing answers it.
+-- No command asks whether a message would fit, takes messages away, marks, moves or counts them, so that nothing answers these.
 abbrev pub answer_text : List RootSpec → List ℕ → List ℕ → Answer → List ℕ
 answer_text roots mailbox tag (replied NoMailbox) = tagged_line tag (codes "NO [TRYCREATE] No such mailbox")
 answer_text roots mailbox tag (replied (Over root resource)) = tagged_line tag (codes "NO [OVERQUOTA] Quota exceeded")
 answer_text roots mailbox tag (replied (Delivered number)) = tagged_line tag (codes "OK APPEND completed")
 answer_text roots mailbox tag (replied Fits) = []
+answer_text roots mailbox tag (replied NoMessage) = []
+answer_text roots mailbox tag (replied Removed) = []
+answer_text roots mailbox tag (replied Marked) = []
+answer_text roots mailbox tag (replied NameTaken) = []
+answer_text roots mailbox tag (replied Moved) = []
+answer_text roots mailbox tag (replied (Status messages unseen deleted deleted_octets octets)) = []
+answer_text roots mailbox tag (replied (Begun generation sets)) = []
+answer_text roots mailbox tag (replied NoPart) = []
+answer_text roots mailbox tag (replied (Part generation octets count)) = []
+answer_text roots mailbox tag (replied (Changed then now)) = []
+answer_text roots mailbox tag (replied (Installed usages)) = []
 answer_text roots mailbox tag (replied NoRoot) = no_root_text tag
 answer_text roots mailbox tag (replied (Quota row)) = root_line roots row ++ tagged_line tag (codes "OK GETQUOTA completed")
 answer_text roots mailbox tag (replied (LimitsSet row)) = root_line roots row ++ tagged_line tag (codes "OK SETQUOTA completed")

@@ -175,7 +175,18 @@ pub fn push_answer(
         Reply::NoMailbox => push_tagged(out, tag, b"NO [TRYCREATE] No such mailbox"),
         Reply::Over { .. } => push_tagged(out, tag, b"NO [OVERQUOTA] Quota exceeded"),
         Reply::Delivered { .. } => push_tagged(out, tag, b"OK APPEND completed"),
-        Reply::Fits => Ok(()),
+        Reply::Fits
+        | Reply::NoMessage
+        | Reply::Removed
+        | Reply::Marked
+        | Reply::NameTaken
+        | Reply::Moved
+        | Reply::Status { .. }
+        | Reply::Begun { .. }
+        | Reply::NoPart
+        | Reply::Part { .. }
+        | Reply::Changed { .. }
+        | Reply::Installed { .. } => Ok(()),
         Reply::NoRoot => push_tagged(out, tag, NO_ROOT),
         Reply::Quota(row) => {
             push_root_line(out, account, row)?;

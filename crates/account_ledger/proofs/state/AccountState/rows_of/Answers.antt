@@ -16,6 +16,6 @@ returns g c =
     let mailbox = c.args.mailbox.now in
     let settled = subst (λ (v : State). (root : ℕ) → governs_at v.setup.roots root mailbox ≡ true → standing_at v.standings root ≡ Settled) (sym c.self.view_is) c.requires in
     let made = rw (c.deref.ensures.value, c.deref-2.ensures.value) at c.rows_of.ensures in
-    let kept = rows_are (g.K.Keeper.told s.opened.value) (g.K.Keeper.told s.keeper) (g.K.Keeper.faults s.opened.value) (g.K.Keeper.faults s.keeper) s.setup s.epoch s.limits.items s.books.items s.deliveries s.history.items mailbox c.self.invariant settled in
+    let kept = rows_are (g.K.Keeper.told s.opened.value) (g.K.Keeper.told s.keeper) (g.K.Keeper.faults s.opened.value) (g.K.Keeper.faults s.keeper) s.setup s.epoch s.limits.items s.books.items s.counts s.history.items mailbox c.self.invariant settled in
     rw (← c.self.view_is) (IfOk-weaker c.rows_of.result (λ (rows : List RootRow). rows ≡ kept_rows s.setup.roots s.limits.items s.books.items mailbox) _
     (λ rows e. of_weaker _ (λ account. rows ≡ governing_rows s.setup.roots account mailbox) (λ account same. e ∙ same) _ kept) made)

@@ -16,7 +16,7 @@ returns g c =
     let s = c.self.inside in
     let mailbox = c.args.mailbox.now in
     let settled = subst (λ (v : State). (root : ℕ) → governs_at v.setup.roots root mailbox ≡ true → standing_at v.standings root ≡ Settled) (sym c.self.view_is) c.requires in
-    let kept = over_is (g.K.Keeper.told s.opened.value) (g.K.Keeper.told s.keeper) (g.K.Keeper.faults s.opened.value) (g.K.Keeper.faults s.keeper) s.setup s.epoch s.limits.items s.books.items s.deliveries s.history.items mailbox c.self.invariant settled c.args.octets in
+    let kept = over_is (g.K.Keeper.told s.opened.value) (g.K.Keeper.told s.keeper) (g.K.Keeper.faults s.opened.value) (g.K.Keeper.faults s.keeper) s.setup s.epoch s.limits.items s.books.items s.counts s.history.items mailbox c.self.invariant settled c.args.octets in
     let limits_are = c.deref-2.ensures.value in
     let all : All AreLimits s.limits.items = rw limits_are at c.are_limits.ensures in
     rw (← c.self.view_is) (of_weaker _ (λ account. IsVerdict (over_in s.setup.roots account mailbox c.args.octets) c.admit.result)

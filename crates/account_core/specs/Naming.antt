@@ -1,0 +1,22 @@
+-- When a mailbox and a base name one message alone.
+use Rattle.std.specs.Prelude.{◌≡◌, ◌<◌, ◌≤◌, ◌+◌, ◌^◌, ℕ, List, length}
+use Rattle.account_core.specs.declared.calls.Entry.{Entry}
+use Rattle.account_core.specs.Account.{Account, Message, Opened}
+use Rattle.account_core.specs.Delivering.{delivered_base}
+use Rattle.account_core.specs.Messages.{how_many}
+use Rattle.account_core.specs.Legality.{account_at}
+
+-- no mailbox has a base twice
+abbrev pub AreApart : List Message → Type 0
+AreApart messages = (mailbox base : List ℕ) → how_many mailbox base messages ≤ 1
+
+-- no message has the base of a delivery that is yet to come
+abbrev pub AreUnused : Account → Type 0
+AreUnused account =
+    (number : ℕ) → account.deliveries < number → number < 2 ^ 64 → (mailbox : List ℕ) → how_many mailbox (delivered_base account.epoch number) account.messages ≡ 0
+
+-- Where no mailbox has a base twice and no message has the base of a delivery to come, none has a base twice after any history.
+abbrev pub NamesStayApart : Type 0
+NamesStayApart =
+    (opened : Opened) (history : List Entry) → opened.account.deliveries + length history < 2 ^ 64
+    → AreApart opened.account.messages → AreUnused opened.account → AreApart (account_at opened history).messages

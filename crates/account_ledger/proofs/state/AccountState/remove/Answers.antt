@@ -1,0 +1,43 @@
+use Rattle.std.proofs.Common.{◌≡◌, List, ℕ, Option, None, true, false, refl, subst, rules, arith}
+use Rattle.std.specs.Option.{option_map}
+use Rattle.quota_roots.specs.declared.root.RootSpec.{RootSpec}
+use Rattle.keeper.specs.declared.rows.FileRow.{FileRow}
+use Rattle.account_core.specs.Account.{Account}
+use Rattle.account_ledger.specs.Messages.{message_in}
+use Rattle.account_core.specs.Machine.{has_mailbox, message_reply}
+use Rattle.account_core.specs.Messages.{named_message}
+use Rattle.account_core.specs.declared.calls.Call.TheVariants.{Remove}
+use Rattle.account_core.specs.declared.calls.Reply.TheVariants.{NoMessage, Removed}
+use Rattle.account_ledger.specs.Serving.{Leaves, OfAccount}
+use Rattle.account_ledger.specs.States.{account_of}
+use Rattle.account_ledger.proofs.Removing.{removal_missing, missing_replied}
+use Rattle.account_ledger.proofs.Replying.{of_weaker, of_both}
+use Rattle.account_ledger.proofs.Served.{account_back, noted, settles_still}
+use Rattle.account_ledger.proofs.state.AccountState.remove.Goals as goal
+
+pub note-requires-in-Ok-None-clause-leaves : goal.note-requires-in-Ok-None-clause-leaves
+note-requires-in-Ok-None-clause-leaves g c =
+    let s = c.args.self.now in
+    let n = c.find_file.new.self in
+    let told : OfAccount s (λ account. named_message c.args.mailbox c.args.base account.messages ≡ option_map (message_in c.args.mailbox) c.in-Ok-None.field-0) = c.in-Ok-None.ensures.message (search rules) in
+    let none = subst (λ (o : Option FileRow). OfAccount s (λ account. named_message c.args.mailbox c.args.base account.messages ≡ option_map (message_in c.args.mailbox) o)) c.in-Ok-None.field-0-is told in
+    account_back (Leaves_of c.args.mailbox c.args.base) s n c.find_file.ensures.opened c.find_file.ensures.history
+    (of_weaker (λ account. named_message c.args.mailbox c.args.base account.messages ≡ None) (Leaves s.setup.roots (Remove c.args.mailbox c.args.base) false)
+    (λ account e. removal_missing s.setup.roots account c.args.mailbox c.args.base e) (account_of s) none)
+  where
+    Leaves_of : (mailbox base : List ℕ) → List RootSpec → Account → Type 0
+    Leaves_of mailbox base roots account = Leaves roots (Remove mailbox base) false account
+
+pub returns-in-Ok-None-clause-serves : goal.returns-in-Ok-None-clause-serves
+returns-in-Ok-None-clause-serves g c =
+    let s = c.args.self.now in
+    let n = c.find_file.new.self in
+    let told : OfAccount s (λ account. named_message c.args.mailbox c.args.base account.messages ≡ option_map (message_in c.args.mailbox) c.in-Ok-None.field-0) = c.in-Ok-None.ensures.message (search rules) in
+    let none = subst (λ (o : Option FileRow). OfAccount s (λ account. named_message c.args.mailbox c.args.base account.messages ≡ option_map (message_in c.args.mailbox) o)) c.in-Ok-None.field-0-is told in
+    let there : OfAccount s (λ account. true ≡ has_mailbox account c.args.mailbox) = search rules in
+    let calm = c.in-Ok-None.ensures.cause.kept (search rules) in
+    noted c.args.caller (Remove c.args.mailbox c.args.base) _ NoMessage s n c.note-in-Ok-None.new.self (λ m m' still. still) (λ epoch rows. refl)
+    (settles_still _ s n c.find_file.ensures.stays c.find_file.ensures.rows) c.find_file.ensures.opened c.find_file.ensures.history calm (c.find_file.ensures.stays, calm)
+    (of_both (λ account. true ≡ has_mailbox account c.args.mailbox) (λ account. named_message c.args.mailbox c.args.base account.messages ≡ None)
+    (λ account. NoMessage ≡ message_reply account c.args.mailbox c.args.base Removed) (λ account e f. missing_replied account c.args.mailbox c.args.base Removed e f) (account_of s) there none)
+    c.note-in-Ok-None.ensures

@@ -1,0 +1,216 @@
+// A message is delivered: it is put into its mailbox, the ledgers of the mailbox's roots get its line, and the call is entered.
+ghost use Rattle.std.specs.Prelude.{◌≡◌, ◌≢◌, ◌<◌, ◌≤◌, ◌+◌, ◌-◌, ◌^◌, min, ◌++◌, ◌∷◌, [], ℕ, true, false, Some, None, Ok, length, bytes_eq, IfOk, OnOk, OnErr, IsErr, IsTrue};
+ghost use Rattle.std.specs.List.{list_any};
+ghost use Rattle.quota_roots.specs.Governing.{governs_at};
+ghost use Rattle.keeper.specs.Calls.{Changes};
+ghost use Rattle.keeper.specs.Causes.{HasCause, Rose};
+ghost use Rattle.message_names.specs.Written.{written_name};
+ghost use Rattle.message_names.specs.Messages.{message_of};
+ghost use Rattle.message_names.specs.Sizes.{cut};
+ghost use Rattle.account_core.specs.Delivering.{delivered_base};
+ghost use Rattle.account_core.specs.History.{entry_of};
+ghost use Rattle.account_core.specs.Machine.{has_mailbox, over_in, reply_of};
+ghost use Rattle.account_core.specs.Legality.{MayBeServed, fault_count};
+ghost use Rattle.account_ledger.specs.declared.book.Standing.TheVariants.{Settled};
+ghost use Rattle.account_ledger.specs.Rows.{IsVerdict};
+ghost use Rattle.account_ledger.specs.Serving.{Enters, Leaves, LedgersStay, SettlesSome, ServesRows, WritesBy, misses, OfAccount, Opened, Serves, StayCalm, WritesLines};
+ghost use Rattle.account_ledger.specs.Settling.{OnFiles};
+ghost use Rattle.account_ledger.specs.States.{standing_at};
+
+use crate::AccountState;
+use crate::counts::Counts;
+use crate::fault::step_error;
+use crate::lines::post_all;
+use account_core::{Call, Entry, Reply, StepError, delivered_base};
+use admission::Verdict;
+use keeper::Keeper;
+use message_names::{NameFault, print_name};
+use quota_units::{Flags, Name};
+use std::alloc::{AllocError, Global};
+
+/// The file name of the delivery of this number.
+#[tactic(auto, using(crate::proofs::Bases::delivered_is_base))]
+fn message_name(
+    alloc: Global,
+    epoch: u64,
+    number: u64,
+    octets: u64,
+    flags: Flags,
+) -> Result<Vec<u8>, AllocError>
+    ensures name { IfOk result (λ name. name.items ≡ written_name (delivered_base epoch number) octets flags) }
+    ensures reads_back { IfOk result (λ name. (length : ℕ)
+        → message_of name.items length ≡ record { base = delivered_base epoch number; octets = cut octets; flags = flags }) }
+{
+    let Ok(base) = delivered_base(alloc, epoch, number) else {
+        return Err(AllocError);
+    };
+    match print_name(alloc, base.as_slice(), octets, flags) {
+        Ok(name) => Ok(name),
+        Err(NameFault::NoMemory) => Err(AllocError),
+        Err(NameFault::BadBase) => unreachable!(),
+    }
+}
+
+/// Whether a name stands among the names.
+fn has_name(names: &[Name], name: &[u8]) -> bool
+    ensures { result ≡ list_any (λ mailbox. bytes_eq mailbox name.now) names.now }
+{
+    names.iter().any(|mailbox| mailbox.as_slice() == name)
+}
+
+impl<K: Keeper> AccountState<K> {
+    /// Whether the account has a mailbox of this name.
+    pub(crate) fn has_mailbox(&self, name: &[u8]) -> bool
+        ensures named { result ≡ list_any (λ mailbox. bytes_eq mailbox name.now) self.now.setup.mailboxes }
+        ensures value { OfAccount self.now (λ account. result ≡ has_mailbox account name.now) }
+    {
+        has_name(self.setup.mailboxes.as_slice(), name)
+    }
+
+    /// Enters a call that the store failed in; one for which there was no memory is not entered.
+    pub(crate) fn fail(&mut self, caller: u32, call: Call, fault: StepError) -> StepError
+        requires room { length self.old.history < self.old.setup.journal }
+        requires held { length self.old.history < self.old.reserved }
+        requires served { MayBeServed call }
+        requires excused { fault ≡ StepError.Store → min (self.old.first_faults + fault_count (self.old.history ++ entry_of caller call true ∷ [])) (2 ^ 64 - 1) ≤ self.old.faults }
+        ensures fault { result ≡ fault }
+        ensures entered { fault ≡ StepError.Store → self.new ≡ record self.old { history = self.old.history ++ entry_of caller call true ∷ [] } }
+        ensures kept { fault ≢ StepError.Store → self.new ≡ self.old }
+    {
+        if let StepError::Store = fault {
+            self.note(caller, call, true);
+        }
+        fault
+    }
+
+    /// Serves a delivery of this caller: a message of so many octets, with these flags, for the mailbox of this name.
+    ///
+    /// # Errors
+    ///
+    /// `Store` where the store failed before the message was put; the entry has fault then. `NoMemory`: there is no entry.
+    #[tactic(auto, using(crate::proofs::Entering::fault_leaves, crate::proofs::Entering::excused_more))]
+    pub(crate) fn deliver(
+        &mut self,
+        alloc: Global,
+        caller: u32,
+        mailbox: Name,
+        octets: u64,
+        flags: Flags,
+        bytes: &[u8],
+    ) -> Result<Reply, StepError>
+        requires bytes { octets ≡ length bytes.now }
+        requires most { octets ≤ 67108864 }
+        requires room { length self.old.history < self.old.setup.journal }
+        requires held { length self.old.history < self.old.reserved }
+        ensures serves { Serves caller (Call.Deliver mailbox octets flags) bytes.now result self.old self.new }
+        ensures never_full { (limit : ℕ) → result ≢ Err (StepError.JournalFull limit) }
+    {
+        self.is_in_order();
+        if !self.has_mailbox(mailbox.as_slice()) {
+            let call = Call::Deliver {
+                mailbox,
+                octets,
+                flags,
+            };
+            self.note(caller, call, false);
+            return Ok(Reply::NoMailbox);
+        }
+        match self.fits(alloc, mailbox.as_slice(), octets) {
+            Ok(Verdict::Fits) => self.accept(alloc, caller, mailbox, octets, flags, bytes),
+            Ok(Verdict::Over { root, resource }) => {
+                let call = Call::Deliver {
+                    mailbox,
+                    octets,
+                    flags,
+                };
+                self.note(caller, call, false);
+                Ok(Reply::Over { root, resource })
+            }
+            Err(fault) => {
+                let call = Call::Deliver {
+                    mailbox,
+                    octets,
+                    flags,
+                };
+                Err(self.fail(caller, call, fault))
+            }
+        }
+    }
+
+    /// Whether a message of so many octets fits the roots that govern the mailbox; those in doubt are settled first.
+    pub(crate) fn fits(&mut self, alloc: Global, mailbox: &[u8], octets: u64) -> Result<Verdict, StepError>
+        ensures opened { Opened self.old self.new }
+        ensures history { self.new.history ≡ self.old.history }
+        ensures reserved { self.new.reserved ≡ self.old.reserved }
+        ensures settled { OnOk result ((root : ℕ) → governs_at self.old.setup.roots root mailbox.now ≡ true → standing_at self.new.standings root ≡ Settled) }
+        ensures settles { SettlesSome (λ root. governs_at self.old.setup.roots root mailbox.now) self.old self.new }
+        ensures verdict { IfOk result (λ verdict. OfAccount self.new (λ account. IsVerdict (over_in self.new.setup.roots account mailbox.now octets) verdict)) }
+        ensures cause { HasCause (result ≡ Err StepError.Store) self.old.faults self.new.faults }
+        ensures never_full { (limit : ℕ) → result ≢ Err (StepError.JournalFull limit) }
+    {
+        self.settle_mailbox(alloc, mailbox)?;
+        Ok(self.verdict_of(alloc, mailbox, octets)?)
+    }
+
+    /// Puts an accepted message into its mailbox, writes its lines, and enters the call.
+    fn accept(
+        &mut self,
+        alloc: Global,
+        caller: u32,
+        mailbox: Name,
+        octets: u64,
+        flags: Flags,
+        bytes: &[u8],
+    ) -> Result<Reply, StepError>
+        requires bytes { octets ≡ length bytes.now }
+        requires most { octets ≤ 67108864 }
+        requires room { length self.old.history < self.old.setup.journal }
+        requires held { length self.old.history < self.old.reserved }
+        requires there { list_any (λ name. bytes_eq name mailbox) self.old.setup.mailboxes ≡ true }
+        requires fits { OfAccount self.old (λ account. (has_mailbox account mailbox ≡ true) × (over_in self.old.setup.roots account mailbox octets ≡ None)) }
+        ensures opened { Opened self.old self.new }
+        ensures enters { Enters caller (Call.Deliver mailbox octets flags) result self.old.history self.new.history }
+        ensures reply { IfOk result (λ given. OfAccount self.old (λ account. given ≡ reply_of self.old.setup.roots account (Call.Deliver mailbox octets flags))) }
+        ensures writes { WritesBy (Call.Deliver mailbox octets flags) result self.old self.new }
+        ensures rows { Changes (OnFiles (λ files files'. ServesRows self.old.epoch (Call.Deliver mailbox octets flags) bytes.now result files.rows files'.rows)) self.old.told self.new.told }
+        ensures there { IfOk result (λ given. misses given ≡ false) }
+        ensures cause { result ≡ Err StepError.Store → Rose self.old.faults self.new.faults }
+        ensures never_full { (limit : ℕ) → result ≢ Err (StepError.JournalFull limit) }
+    {
+        let number = self.counts.deliveries + 1;
+        let name = message_name(alloc, self.epoch, number, octets, flags)?;
+        if let Err(fault) = self.keeper.put(alloc, mailbox.as_slice(), &name, bytes) {
+            let call = Call::Deliver {
+                mailbox,
+                octets,
+                flags,
+            };
+            return Err(self.fail(caller, call, step_error(fault)));
+        }
+        // The account has at most four roots.
+        let _count = self.setup.roots.count();
+        post_all(
+            &mut self.keeper,
+            &self.setup.roots,
+            &self.limits,
+            &mut self.books,
+            None,
+            Some(mailbox.as_slice()),
+            octets,
+        );
+        self.counts = Counts {
+            deliveries: number,
+            generation: self.counts.generation + 1,
+        };
+        self.history.push_reserved(Entry {
+            caller,
+            call: Call::Deliver {
+                mailbox,
+                octets,
+                flags,
+            },
+            fault: false,
+        });
+        Ok(Reply::Delivered { number })
+    }
+}
