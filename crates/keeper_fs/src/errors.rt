@@ -1,0 +1,21 @@
+ghost use Rattle.std.specs.Prelude.{◌≡◌};
+
+use keeper::KeepError;
+use std::io;
+use std::io::ErrorKind;
+
+/// The cause of an error: `NoMemory` where memory was wanted, and `Failed` where the system has failed, whatever it says.
+pub(crate) fn cause(error: io::Error) -> KeepError {
+    if error.kind() == ErrorKind::OutOfMemory && error.raw_os_error().is_none() {
+        KeepError::NoMemory
+    } else {
+        KeepError::Failed
+    }
+}
+
+/// A fault, whatever the error is: for a call that changes files.
+pub(crate) fn fault(_: io::Error) -> KeepError
+    ensures { result ≡ KeepError.Failed }
+{
+    KeepError::Failed
+}

@@ -1,0 +1,181 @@
+ghost use Rattle.std.specs.Prelude.{◌≡◌, ◌≤◌, ◌<◌, ◌&&◌, ℕ, None, false, Option, IsErr, IsErrOf, IfOk, All};
+ghost use Rattle.keeper.specs.Causes.{HasCause, next_count};
+ghost use Rattle.keeper_fs.specs.Names.{is_file_name};
+ghost use Rattle.keeper_fs.specs.Rows.{IsMessageRow};
+ghost use Rattle.keeper_fs.specs.Real.{faults_of, append_faults_of, lists_of};
+
+use crate::{ledgers, listing, messages};
+use keeper::{Failed, FileRow, KeepError, Keeper};
+use std::alloc::Global;
+use std::fs::Files;
+
+/// Keeps an account in a folder of its own, a Maildir++ tree. What the folder holds is not told.
+///
+/// A message of INBOX is a file in `new` or `cur` of the folder, and one of another mailbox in `new` or `cur` of the folder's
+/// folder `.<mailbox>`. The ledger of root 0 is the file `maildirsize`, and that of root k `maildirsize.<k>`. Each `Err` of the
+/// system is a fault, and so is want of memory where a call has no answer for it.
+#[derive(Drop)]
+pub struct FsKeeper<R> {
+    rt: R,
+    folder: String,
+    faults: u64,
+    append_faults: u64,
+    lists: u64,
+}
+
+impl<R: Files + AllocGlobal + Clone + Drop> FsKeeper<R> {
+    /// A keeper of the account in this folder.
+    pub(crate) fn new(rt: R, folder: String) -> FsKeeper<R>
+        ensures faults { faults_of result ≡ 0 }
+        ensures appends { append_faults_of result ≡ 0 }
+        ensures listings { lists_of result ≡ 0 }
+    {
+        FsKeeper {
+            rt,
+            folder,
+            faults: 0,
+            append_faults: 0,
+            lists: 0,
+        }
+    }
+
+    /// How often a call other than `append_ledger` has failed.
+    pub(crate) fn faults(&self) -> u64
+        ensures { result ≡ faults_of self.now }
+    {
+        self.faults
+    }
+
+    /// How often `append_ledger` has failed.
+    #[cfg(test)]
+    pub(crate) fn append_faults(&self) -> u64
+        ensures { result ≡ append_faults_of self.now }
+    {
+        self.append_faults
+    }
+
+    /// Counts a fault of a call other than `append_ledger`.
+    fn fail(&mut self) -> Failed
+        ensures counted { faults_of self.new ≡ next_count (faults_of self.old) }
+        ensures later { faults_of self.old ≤ faults_of self.new }
+        ensures appends { append_faults_of self.new ≡ append_faults_of self.old }
+        ensures listings { lists_of self.new ≡ lists_of self.old }
+    {
+        self.faults = self.faults.saturating_add(1);
+        Failed
+    }
+
+    /// The same answer, with its fault counted.
+    fn counted<T>(&mut self, answer: Result<T, KeepError>) -> Result<T, KeepError>
+        ensures same { result ≡ answer }
+        ensures cause { HasCause (IsErrOf answer KeepError.Failed) (faults_of self.old) (faults_of self.new) }
+        ensures appends { append_faults_of self.new ≡ append_faults_of self.old }
+        ensures listings { lists_of self.new ≡ lists_of self.old }
+    {
+        if let Err(KeepError::Failed) = &answer {
+            self.fail();
+        }
+        answer
+    }
+}
+
+impl<R: Files + AllocGlobal + Clone + Drop> Keeper for FsKeeper<R> {
+    ghost told = { λ _. None };
+
+    ghost faults = { faults_of };
+
+    ghost append_faults = { append_faults_of };
+
+    ghost lists = { lists_of };
+
+    fn list(&mut self, alloc: Global, mailbox: &[u8]) -> Result<Vec<FileRow>, KeepError>
+        ensures cause { HasCause (IsErrOf result KeepError.Failed) (faults_of self.old) (faults_of self.new) }
+        ensures appends { append_faults_of self.new ≡ append_faults_of self.old }
+        ensures listings { lists_of self.new ≡ next_count (lists_of self.old) }
+        // Only a name that leads to no other folder is looked for.
+        ensures outside { is_file_name mailbox.now ≡ false → IsErrOf result KeepError.Failed }
+        // Only a file whose name other calls take is listed, and only where its name states no size is it asked for its length.
+        ensures rows { IfOk result (λ rows. All IsMessageRow rows.items) }
+    {
+        self.lists = self.lists.saturating_add(1);
+        let answer = listing::list(&self.rt, alloc, self.folder.as_str(), mailbox);
+        self.counted(answer)
+    }
+
+    fn put(
+        &mut self,
+        alloc: Global,
+        mailbox: &[u8],
+        name: &[u8],
+        octets: &[u8],
+    ) -> Result<(), KeepError>
+        ensures cause { HasCause (IsErrOf result KeepError.Failed) (faults_of self.old) (faults_of self.new) }
+        ensures appends { append_faults_of self.new ≡ append_faults_of self.old }
+        ensures listings { lists_of self.new ≡ lists_of self.old }
+        // Only names that lead to no other folder are written.
+        ensures outside { (is_file_name mailbox.now && is_file_name name.now) ≡ false → IsErrOf result KeepError.Failed }
+    {
+        let answer = messages::put(&self.rt, alloc, self.folder.as_str(), mailbox, name, octets);
+        self.counted(answer)
+    }
+
+    fn rename(
+        &mut self,
+        alloc: Global,
+        from: &[u8],
+        name: &[u8],
+        to: &[u8],
+        new_name: &[u8],
+    ) -> Result<(), KeepError>
+        ensures cause { HasCause (IsErrOf result KeepError.Failed) (faults_of self.old) (faults_of self.new) }
+        ensures appends { append_faults_of self.new ≡ append_faults_of self.old }
+        ensures listings { lists_of self.new ≡ lists_of self.old }
+        // Only names that lead to no other folder are renamed.
+        ensures outside { (is_file_name from.now && (is_file_name name.now && (is_file_name to.now && is_file_name new_name.now))) ≡ false → IsErrOf result KeepError.Failed }
+    {
+        let folder = self.folder.as_str();
+        let answer = messages::rename(&self.rt, alloc, folder, from, name, to, new_name);
+        self.counted(answer)
+    }
+
+    fn remove(&mut self, mailbox: &[u8], name: &[u8]) -> Result<(), Failed>
+        ensures cause { HasCause (IsErr result) (faults_of self.old) (faults_of self.new) }
+        ensures appends { append_faults_of self.new ≡ append_faults_of self.old }
+        ensures listings { lists_of self.new ≡ lists_of self.old }
+        // Only a name that leads to no other folder is removed.
+        ensures outside { (is_file_name mailbox.now && is_file_name name.now) ≡ false → IsErr result }
+    {
+        match messages::remove(
+            &self.rt,
+            self.rt.alloc(),
+            self.folder.as_str(),
+            mailbox,
+            name,
+        ) {
+            Ok(()) => Ok(()),
+            Err(_) => Err(self.fail()),
+        }
+    }
+
+    fn read_ledger(&mut self, alloc: Global, root: u32) -> Result<Option<Vec<u8>>, KeepError> {
+        let answer = ledgers::read(&self.rt, alloc, self.folder.as_str(), root);
+        self.counted(answer)
+    }
+
+    fn append_ledger(&mut self, root: u32, line: &[u8]) -> Result<(), Failed> {
+        match ledgers::append(&self.rt, self.rt.alloc(), self.folder.as_str(), root, line) {
+            Ok(()) => Ok(()),
+            Err(_) => {
+                self.append_faults = self.append_faults.saturating_add(1);
+                Err(Failed)
+            }
+        }
+    }
+
+    fn install_ledger(&mut self, root: u32, text: &[u8]) -> Result<(), Failed> {
+        match ledgers::install(&self.rt, self.rt.alloc(), self.folder.as_str(), root, text) {
+            Ok(()) => Ok(()),
+            Err(_) => Err(self.fail()),
+        }
+    }
+}

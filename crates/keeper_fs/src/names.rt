@@ -1,0 +1,40 @@
+ghost use Rattle.std.specs.Prelude.{◌≡◌, IfOk, IfErr, true, false};
+ghost use Rattle.std.specs.List.{list_any};
+ghost use Rattle.keeper_fs.specs.Names.{is_separator, is_plain, is_file_name};
+
+use keeper::Failed;
+use memchr::memchr2;
+
+/// The text of a name of one file or folder.
+///
+/// # Errors
+///
+/// `Failed` where the name is no text, is empty, begins with `.`, or has `/` or byte 0.
+#[tactic(auto, using(crate::proofs::Texts::is_text, crate::proofs::Texts::is_no_text))]
+pub(crate) fn file_name(name: &[u8]) -> Result<&str, Failed>
+    ensures text { IfOk result (λ text. text.now ≡ name.now) }
+    ensures ok { IfOk result (λ _. is_file_name name.now ≡ true) }
+    ensures refused { IfErr result (λ _. is_file_name name.now ≡ false) }
+{
+    match str::from_utf8(name) {
+        Ok(text) if is_plain(name) => Ok(text),
+        _ => Err(Failed),
+    }
+}
+
+/// Whether a name is not empty, does not begin with `.`, and has neither `/` nor byte 0.
+fn is_plain(name: &[u8]) -> bool
+    ensures { result ≡ is_plain name.now }
+{
+    !name.is_empty() && !name.starts_with(b".") && !has_separator(name)
+}
+
+#[tactic(auto, using(crate::proofs::NameLemmas::found, crate::proofs::NameLemmas::missed))]
+fn has_separator(name: &[u8]) -> bool
+    ensures { result ≡ list_any is_separator name.now }
+{
+    match memchr2(0, b'/', name) {
+        Some(_) => true,
+        None => false,
+    }
+}
