@@ -93,7 +93,7 @@ holds_noted setup limits books counts entries account account' files same holds 
       limits_are = holds.limits_are;
       mailboxes_are = holds.mailboxes_are;
       deliveries_are = holds.deliveries_are;
-    generation_is = holds.generation_is;
+      generation_is = holds.generation_is;
       stand = holds.stand;
       bounded = omega (arith, holds.bounded);
       few = omega (arith, holds.few);

@@ -90,7 +90,7 @@ order_settled then now now' faults_then faults faults' setup epoch limits books 
   served = order.served;
   excused = omega (arith, order.excused);
   delivered = order.delivered;
-      changed = order.changed;
+  changed = order.changed;
   limits_each = order.limits_each;
   books_each = marks.count ∙ order.books_each;
   small = small;

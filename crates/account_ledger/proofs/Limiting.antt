@@ -99,7 +99,7 @@ module _ (then now now' : Option Told) (faults_then faults faults' : ℕ) (setup
         served = order.served;
         excused = omega (arith, order.excused);
         delivered = order.delivered;
-      changed = order.changed;
+        changed = order.changed;
         limits_each = order.limits_each;
         books_each = order.books_each;
         small = order.small;
@@ -127,7 +127,7 @@ module _ (then now now' : Option Told) (faults_then faults faults' : ℕ) (setup
           served = served_more history entry order.served tt;
           excused = excused_still faults_then faults faults' history caller (SetLimits name new) order.excused later;
           delivered = omega (arith, long, order.delivered);
-      changed = omega (arith, long, order.changed);
+          changed = omega (arith, long, order.changed);
           limits_each = length-set limits root new ∙ order.limits_each;
           books_each = length-set books root book ∙ order.books_each;
           small = All-set (λ (b : Book). AreSmall b.totals) books root book (subst (λ (t : Totals). AreSmall t) (sym read ∙ sym (ap (λ (b : Book). b.totals) book_is)) small) order.small;

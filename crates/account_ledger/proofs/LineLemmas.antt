@@ -39,11 +39,11 @@ module _ (changes : ℕ → Option Change) (octets : ℕ) (limits : List LimitNu
   books_more before count line = record {
     count = count ∙ before.count;
     done = λ root below. elim (cases_lt root n) [
-        | inl earlier ↦ subst (λ x. BookLined (changes root) octets (limits_at limits root) (book_at a root) x) (sym (others root (omega (arith, earlier)))) (before.done root earlier)
-        | inr later ↦
-            let e : root ≡ n = omega (arith, below, later) in
-            rw e (subst (λ x. BookLined (changes n) octets (limits_at limits n) x (book_at c n)) (before.left n (omega arith)) line)
-      ];
+      | inl earlier ↦ subst (λ x. BookLined (changes root) octets (limits_at limits root) (book_at a root) x) (sym (others root (omega (arith, earlier)))) (before.done root earlier)
+      | inr later ↦
+          let e : root ≡ n = omega (arith, below, later) in
+          rw e (subst (λ x. BookLined (changes n) octets (limits_at limits n) x (book_at c n)) (before.left n (omega arith)) line)
+    ];
     left = λ root above. others root (omega (arith, above)) ∙ before.left root (omega (arith, above));
   }
 
@@ -53,14 +53,14 @@ module _ (changes : ℕ → Option Change) (octets : ℕ) (limits : List LimitNu
   ledgers_more files files1 files2 books before (one, line) = record {
     rows = one.rows ∙ before.rows;
     done = λ root below. elim (cases_lt root n) [
-        | inl earlier ↦
-            subst (λ x. LedgerLined (changes root) octets (limits_at limits root) (book_at a root) x (ledger_at files root) (ledger_at files2 root)) (ap (λ (k : Book). k.standing) (sym (others root (omega (arith, earlier)))))
-            (subst (λ x. LedgerLined (changes root) octets (limits_at limits root) (book_at a root) (book_at b root).standing (ledger_at files root) x) (sym (one.others root (omega (arith, earlier)))) (before.done root earlier))
-        | inr later ↦
-            let e : root ≡ n = omega (arith, below, later) in
-            rw e (subst (λ x. LedgerLined (changes n) octets (limits_at limits n) x (book_at c n).standing (ledger_at files n) (ledger_at files2 n)) (books.left n (omega arith))
-            (subst (λ x. LedgerLined (changes n) octets (limits_at limits n) (book_at b n) (book_at c n).standing x (ledger_at files2 n)) (before.left n (omega arith)) line))
-      ];
+      | inl earlier ↦
+          subst (λ x. LedgerLined (changes root) octets (limits_at limits root) (book_at a root) x (ledger_at files root) (ledger_at files2 root)) (ap (λ (k : Book). k.standing) (sym (others root (omega (arith, earlier)))))
+          (subst (λ x. LedgerLined (changes root) octets (limits_at limits root) (book_at a root) (book_at b root).standing (ledger_at files root) x) (sym (one.others root (omega (arith, earlier)))) (before.done root earlier))
+      | inr later ↦
+          let e : root ≡ n = omega (arith, below, later) in
+          rw e (subst (λ x. LedgerLined (changes n) octets (limits_at limits n) x (book_at c n).standing (ledger_at files n) (ledger_at files2 n)) (books.left n (omega arith))
+          (subst (λ x. LedgerLined (changes n) octets (limits_at limits n) (book_at b n) (book_at c n).standing x (ledger_at files2 n)) (before.left n (omega arith)) line))
+    ];
     left = λ root above. one.others root (omega (arith, above)) ∙ before.left root (omega (arith, above));
   }
 

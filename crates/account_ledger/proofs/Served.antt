@@ -180,13 +180,13 @@ question_rows (Roots mailbox) bytes given question epoch rows = refl
 pub none_settled : (may : ℕ → Bool) (s m : State) → ((root : ℕ) → may root ≡ false) → SettlesSome may s m → LedgersStay s m
 none_settled may s m none settles = record {
   standings = same_standings s.standings m.standings settles.count (λ root. elim (settles.each root) [
-      | inl same ↦ same
-      | inr w ↦ absurd (let e = sym w.0 ∙ none root in cc)
-    ]);
+    | inl same ↦ same
+    | inr w ↦ absurd (let e = sym w.0 ∙ none root in cc)
+  ]);
   ledgers = changes_weaken {X = Told} _ _ (λ (x y : Told) changed root. elim (changed.each root) [
-      | inl same ↦ same
-      | inr w ↦ absurd (let e = sym w.0 ∙ none root in cc)
-    ]) s.told m.told settles.files;
+    | inl same ↦ same
+    | inr w ↦ absurd (let e = sym w.0 ∙ none root in cc)
+  ]) s.told m.told settles.files;
   appends = settles.appends;
 }
   where

@@ -179,7 +179,6 @@ module _ (setup : Setup) (limits : List LimitNumbers) (books books' : List Book)
           kept_lined change octets (limits_at limits root) (usage_at setup.roots root account) (usage_at setup.roots root account') (ledger_at files root) (ledger_at files' root)
           (book_at books root) (book_at books' root) small moved bound.0 bound.1 (kept is) b book.1 l
 
-
 -- What a call that moves a message, or brings or removes one, has to show of the account.
 pub record Moves (setup : Setup) (leaving coming : Option Message) (octets : ℕ) (counts counts' : Counts) (account account' : Account) : Type 0 where
   pub limits : account'.limits ≡ account.limits

@@ -138,7 +138,12 @@ impl<K: Keeper> AccountState<K> {
     }
 
     /// Whether a message of so many octets fits the roots that govern the mailbox; those in doubt are settled first.
-    pub(crate) fn fits(&mut self, alloc: Global, mailbox: &[u8], octets: u64) -> Result<Verdict, StepError>
+    pub(crate) fn fits(
+        &mut self,
+        alloc: Global,
+        mailbox: &[u8],
+        octets: u64,
+    ) -> Result<Verdict, StepError>
         ensures opened { Opened self.old self.new }
         ensures history { self.new.history ≡ self.old.history }
         ensures reserved { self.new.reserved ≡ self.old.reserved }

@@ -50,13 +50,7 @@ fn append<K: Keeper>(keeper: &mut K, book: Book, root: u32, line: &[u8], totals:
 
 /// Writes a folded text in place of the ledger of a settled root, which has no room for a line. What is kept of the root then:
 /// where the write failed, the root is in doubt.
-fn fold<K: Keeper>(
-    keeper: &mut K,
-    limits: &Limits,
-    book: Book,
-    root: u32,
-    totals: Totals,
-) -> Book
+fn fold<K: Keeper>(keeper: &mut K, limits: &Limits, book: Book, root: u32, totals: Totals) -> Book
     requires root { root < 4 }
     requires settled { book.standing ≡ Settled }
     requires kept { AreSmall book.totals }

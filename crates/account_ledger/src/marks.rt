@@ -40,16 +40,40 @@ impl<K: Keeper> AccountState<K> {
     {
         self.is_in_order();
         if !self.has_mailbox(mailbox.as_slice()) {
-            self.note(caller, Call::Mark { mailbox, base, flags }, false);
+            self.note(
+                caller,
+                Call::Mark {
+                    mailbox,
+                    base,
+                    flags,
+                },
+                false,
+            );
             return Ok(Reply::NoMailbox);
         }
         match self.find_file(alloc, &mailbox, &base) {
             Ok(Some(file)) => self.set_flags(alloc, caller, mailbox, base, flags, file),
             Ok(None) => {
-                self.note(caller, Call::Mark { mailbox, base, flags }, false);
+                self.note(
+                    caller,
+                    Call::Mark {
+                        mailbox,
+                        base,
+                        flags,
+                    },
+                    false,
+                );
                 Ok(Reply::NoMessage)
             }
-            Err(fault) => Err(self.fail(caller, Call::Mark { mailbox, base, flags }, fault)),
+            Err(fault) => Err(self.fail(
+                caller,
+                Call::Mark {
+                    mailbox,
+                    base,
+                    flags,
+                },
+                fault,
+            )),
         }
     }
 
@@ -89,12 +113,20 @@ impl<K: Keeper> AccountState<K> {
             &name,
         );
         if let Err(fault) = renamed {
-            let call = Call::Mark { mailbox, base, flags };
+            let call = Call::Mark {
+                mailbox,
+                base,
+                flags,
+            };
             return Err(self.fail(caller, call, step_error(fault)));
         }
         self.history.push_reserved(Entry {
             caller,
-            call: Call::Mark { mailbox, base, flags },
+            call: Call::Mark {
+                mailbox,
+                base,
+                flags,
+            },
             fault: false,
         });
         Ok(Reply::Marked)

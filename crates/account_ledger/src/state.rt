@@ -396,7 +396,12 @@ impl<K: Keeper> AccountState<K> {
     }
 
     /// Whether a message fits the roots that govern the mailbox, which are settled.
-    pub(crate) fn verdict_of(&self, alloc: Global, mailbox: &[u8], octets: u64) -> Result<Verdict, AllocError>
+    pub(crate) fn verdict_of(
+        &self,
+        alloc: Global,
+        mailbox: &[u8],
+        octets: u64,
+    ) -> Result<Verdict, AllocError>
         requires { (root : ℕ) → governs_at self.now.setup.roots root mailbox.now ≡ true → standing_at self.now.standings root ≡ Settled }
         ensures { IfOk result (λ verdict. OfAccount self.now (λ account. IsVerdict (over_in self.now.setup.roots account mailbox.now octets) verdict)) }
     {
