@@ -1,12 +1,21 @@
-// An account over keepers in memory, opened and asked.
-use super::{AccountState, OpenError, OpenFault, Standing};
+// An account over keepers in memory.
+ghost use Rattle.std.specs.Prelude.{[]};
+ghost use Rattle.account_ledger.specs.Serving.{HasBytes, IsServed};
+
+use super::{AccountState, Standing};
 use account_core::{Call, Reply, RootRow, StepError};
 use keeper::{Bytes, FixedKeeper, KeepCall, KeepFail, Keeper, MemKeeper, StoreRow};
 use quota_roots::{LimitsList, NameList, RootSpec, Roots, Setup};
-use quota_units::{Limits, Name, Resource, Totals};
+use quota_units::{Flags, Limits, Name};
 use std::alloc::Global;
 use std::process::Abort;
 use std::test::Fail;
+
+mod deliveries;
+mod limits;
+mod moves;
+mod openings;
+mod questions;
 
 fn file(alloc: Global, mailbox: &[u8], name: &[u8]) -> Result<StoreRow, Fail> {
     Ok(StoreRow {
@@ -35,44 +44,73 @@ fn keeper(
     Ok(MemKeeper::new(alloc, rows, ledgers, fails.to_vec(alloc)?)?)
 }
 
-/// One root that governs all but Trash, without limits, and one of the mailbox Lists; INBOX, Lists and Trash; so many entries.
-fn setup(alloc: Global, journal: u32) -> Result<Setup, Fail> {
-    let all = RootSpec {
+/// The mailboxes INBOX, Lists and Trash.
+fn mailboxes(alloc: Global) -> Result<NameList, Fail> {
+    let names = vec![in alloc;
+        Name::of(alloc, b"INBOX")?,
+        Name::of(alloc, b"Lists")?,
+        Name::of(alloc, b"Trash")?,
+    ]?;
+    Ok(NameList::new(names))
+}
+
+/// The root of the empty name, which governs all mailboxes but Trash.
+fn all_but_trash(alloc: Global) -> Result<RootSpec, Fail> {
+    Ok(RootSpec {
         name: Name::of(alloc, b"")?,
         prefix: None,
-    };
+    })
+}
+
+/// One root that governs all but Trash, without limits, and one of the mailbox Lists; INBOX, Lists and Trash; so many entries.
+fn setup(alloc: Global, journal: u32) -> Result<Setup, Fail> {
     let lists = RootSpec {
         name: Name::of(alloc, b"lists")?,
         prefix: Some(Name::of(alloc, b"Lists")?),
     };
     let free = Limits::new(None, None).ok_or("no limits")?;
     let few = Limits::new(None, Some(1)).ok_or("one message")?;
-    let mailboxes = vec![in alloc;
-        Name::of(alloc, b"INBOX")?,
-        Name::of(alloc, b"Lists")?,
-        Name::of(alloc, b"Trash")?,
-    ]?;
     Ok(Setup {
-        roots: Roots::new(vec![in alloc; all, lists]?)?,
+        roots: Roots::new(vec![in alloc; all_but_trash(alloc)?, lists]?)?,
         limits: LimitsList::new(vec![in alloc; free, few]?),
-        mailboxes: NameList::new(mailboxes),
+        mailboxes: mailboxes(alloc)?,
         journal,
     })
 }
 
-/// The account over a keeper, opened at the second 1700000000.
+/// One root that governs all but Trash, with a limit in octets, if any; INBOX, Lists and Trash; 1000 entries.
+fn one_root(alloc: Global, octets: Option<u64>) -> Result<Setup, Fail> {
+    let limits = Limits::new(octets, None).ok_or("limits")?;
+    Ok(Setup {
+        roots: Roots::new(vec![in alloc; all_but_trash(alloc)?]?)?,
+        limits: LimitsList::new(vec![in alloc; limits]?),
+        mailboxes: mailboxes(alloc)?,
+        journal: 1000,
+    })
+}
+
+/// The account of a setup over a keeper, opened at the second 1700000000.
+fn open_with<K: Keeper + Drop>(
+    rt: &impl Abort,
+    alloc: Global,
+    keeper: K,
+    setup: Setup,
+) -> Result<AccountState<K>, Fail> {
+    assert!(rt; setup.is_sound());
+    match AccountState::open(alloc, keeper, setup, 1700000000) {
+        Ok(state) => Ok(state),
+        Err(_) => Err("the account is refused".into()),
+    }
+}
+
+/// The account of two roots over a keeper, with so many entries.
 fn open<K: Keeper + Drop>(
     rt: &impl Abort,
     alloc: Global,
     keeper: K,
     journal: u32,
 ) -> Result<AccountState<K>, Fail> {
-    let setup = setup(alloc, journal)?;
-    assert!(rt; setup.is_sound());
-    match AccountState::open(alloc, keeper, setup, 1700000000) {
-        Ok(state) => Ok(state),
-        Err(_) => Err("the account is refused".into()),
-    }
+    open_with(rt, alloc, keeper, setup(alloc, journal)?)
 }
 
 fn quota<K: Keeper>(
@@ -102,6 +140,14 @@ fn row(octets: u64, count: u64, limits: Limits) -> RootRow {
     }
 }
 
+/// The bytes of a root's ledger.
+fn ledger<K: Keeper>(alloc: Global, keeper: &mut K, root: u32) -> Result<Option<Vec<u8>>, Fail> {
+    if root >= 4 {
+        return Err("no such root".into());
+    }
+    Ok(keeper.read_ledger(alloc, root)?)
+}
+
 /// Checks the bytes of the ledger of root 0.
 fn check_ledger<K: Keeper>(
     rt: &impl Abort,
@@ -109,291 +155,121 @@ fn check_ledger<K: Keeper>(
     keeper: &mut K,
     expected: Option<&[u8]>,
 ) -> Result<(), Fail> {
-    let found = keeper.read_ledger(alloc, 0)?;
+    let found = ledger(alloc, keeper, 0)?;
     let found = found.as_ref().map(|bytes| bytes.as_slice());
     assert_eq!(rt; found, expected);
     Ok(())
 }
 
-#[test]
-fn the_first_settling_fails_and_the_second_succeeds(rt: HostRuntime) -> Result<(), Fail> {
-    let alloc = rt.alloc();
-    let fail = KeepFail {
-        kind: KeepCall::InstallLedger,
-        nth: 1,
-    };
-    let keeper = keeper(alloc, &[], None, &[fail])?;
-    let mut state = open(&rt, alloc, keeper, 8)?;
-    let root = Name::of(alloc, b"")?;
-    let refused = state.serve(alloc, 0, Call::Quota { root }, b"");
-    assert_eq!(rt; refused.err(), Some(StepError::Store));
-    assert!(rt; !is_settled(&state, 0));
-    assert_eq!(rt; state.calls(), 1);
-    let free = Limits::new(None, None).ok_or("no limits")?;
-    assert_eq!(rt; quota(alloc, &mut state, b"")?, Some(row(0, 0, free)));
-    assert!(rt; is_settled(&state, 0));
-    assert!(rt; !is_settled(&state, 1));
-    assert_eq!(rt; state.calls(), 2);
-    Ok(())
-}
-
-#[test]
-fn an_old_ledger_gives_its_limits_and_no_sum(rt: HostRuntime) -> Result<(), Fail> {
-    let alloc = rt.alloc();
-    let table: [(&[&[u8]], &[u8], u64, u64, Option<u64>, Option<u64>, &[u8]); 3] = [
-        (
-            &[b"1.mx,S=1000", b"2.mx,S=400"],
-            b"1500S\n",
-            1400,
-            2,
-            Some(1500),
-            None,
-            b"1500S\n1400 2\n",
-        ),
-        (
-            &[],
-            b"10000000S,1000C\n1234 1\n-1234 -1",
-            0,
-            0,
-            Some(10000000),
-            Some(1000),
-            b"10000000S,1000C\n0 0\n",
-        ),
-        (
-            &[b"1.mx,S=7"],
-            b"1500\n7 1\n",
-            7,
-            1,
-            None,
-            None,
-            b"0S\n7 1\n",
-        ),
-    ];
-    for (names, ledger, octets, count, storage, messages, folded) in table {
-        let limits = Limits::new(storage, messages).ok_or("limits")?;
-        let keeper = keeper(alloc, names, Some(ledger), &[])?;
-        let mut state = open(&rt, alloc, keeper, 8)?;
-        assert_eq!(rt;
-            quota(alloc, &mut state, b"")?,
-            Some(row(octets, count, limits))
-        );
-        let mut keeper = state.into_keeper();
-        check_ledger(&rt, alloc, &mut keeper, Some(folded))?;
+/// The names of a mailbox's files and their lengths, a line each.
+fn files<K: Keeper>(alloc: Global, keeper: &mut K, mailbox: &[u8]) -> Result<String, Fail> {
+    let mut text = String::new(alloc);
+    for row in keeper.list(alloc, mailbox)?.iter() {
+        let name = str::from_utf8(row.name.as_slice())?;
+        let line = format!(in alloc; "{name} {}\n", row.length)?;
+        text.push_str(line.as_str())?;
     }
-    Ok(())
+    Ok(text)
 }
 
-/// The name that a refusal for a double name, or for a used epoch, gives.
-fn named(cause: OpenError, is_double: bool) -> Result<Name, Fail> {
-    match cause {
-        OpenError::DoubleName { name } if is_double => Ok(name),
-        OpenError::EpochUsed { name } if !is_double => Ok(name),
-        _ => Err("another refusal".into()),
-    }
+/// A call, with the bytes of its names: of mailboxes, bases and roots, and the letters of flags.
+#[derive(Clone, Copy, Debug)]
+enum Step<'a> {
+    Deliver(&'a [u8], usize, &'a [u8]),
+    Remove(&'a [u8], &'a [u8]),
+    Mark(&'a [u8], &'a [u8], &'a [u8]),
+    Move(&'a [u8], &'a [u8], &'a [u8]),
+    Quota(&'a [u8]),
+    Status(&'a [u8]),
+    ScanPart(u32),
 }
 
-/// Opens a store of these files of INBOX, and gives the refusal's name.
-fn refusal(rt: &impl Abort, alloc: Global, names: &[&[u8]], is_double: bool) -> Result<Name, Fail> {
-    let keeper = keeper(alloc, names, None, &[])?;
-    let setup = setup(alloc, 8)?;
-    assert!(rt; setup.is_sound());
-    match AccountState::open(alloc, keeper, setup, 1700000000) {
-        Ok(_) => Err("the account is opened".into()),
-        Err(fault) => {
-            let OpenFault { cause, keeper: _ } = fault;
-            named(cause, is_double)
-        }
-    }
+/// What a call without octets is answered, as it is printed.
+fn answer<K: Keeper>(alloc: Global, state: &mut AccountState<K>, call: Call) -> Result<String, Fail>
+    requires served { IsServed call }
+    requires bytes { HasBytes call [] }
+{
+    let answer = state.serve(alloc, 0, call, b"");
+    Ok(format!(in alloc; "{answer:?}")?)
 }
 
-#[test]
-fn an_opening_is_refused_for_a_used_epoch_and_a_double_name(rt: HostRuntime) -> Result<(), Fail> {
-    let alloc = rt.alloc();
-    let table: [(&[&[u8]], bool, &[u8]); 5] = [
-        (&[b"1700000000.4.quotad,S=1"], false, b"1700000000.4.quotad"),
-        (
-            &[b"1.mx", b"1700000000.quotad"],
-            false,
-            b"1700000000.quotad",
-        ),
-        (&[b"5.mx,S=1", b"5.mx:2,S"], true, b"5.mx"),
-        (&[b"a", b"b", b"b,S=1", b"a,S=1"], true, b"a"),
-        (&[b"1700000000.1.quotad", b"c", b"c:2,"], true, b"c"),
-    ];
-    for (names, is_double, expected) in table {
-        let name = refusal(&rt, alloc, names, is_double)?;
-        assert_eq!(rt; name.as_slice(), expected);
-    }
-    Ok(())
-}
-
-#[test]
-fn a_failed_listing_refuses_the_opening(rt: HostRuntime) -> Result<(), Fail> {
-    let alloc = rt.alloc();
-    for kind in [KeepCall::List, KeepCall::ReadLedger] {
-        let keeper = keeper(alloc, &[], None, &[KeepFail { kind, nth: 2 }])?;
-        let setup = setup(alloc, 8)?;
-        assert!(rt; setup.is_sound());
-        let is_store = match AccountState::open(alloc, keeper, setup, 1700000000) {
-            Ok(_) => false,
-            Err(fault) => matches!(&fault.cause, OpenError::Store),
-        };
-        assert!(rt; is_store, "{kind:?}");
-    }
-    Ok(())
-}
-
-#[test]
-fn a_check_says_which_limit_a_message_breaks(rt: HostRuntime) -> Result<(), Fail> {
-    let alloc = rt.alloc();
-    let keeper = keeper(alloc, &[b"1.mx,S=1400"], Some(b"1500S\n"), &[])?;
-    let mut state = open(&rt, alloc, keeper, 8)?;
-    for (octets, fits) in [(0, true), (100, true), (101, false), (u64::MAX, false)] {
-        let reply = state.serve(alloc, 0, Call::Check { octets }, b"")?;
-        match &reply {
-            Reply::Fits => assert!(rt; fits, "{octets}"),
-            Reply::Over { root, resource } => {
-                assert!(rt; !fits, "{octets}");
-                assert_eq!(rt; (*root, *resource), (0, Resource::Storage));
-            }
-            _ => return Err("a reply of another call".into()),
-        }
-    }
-    Ok(())
-}
-
-#[test]
-fn the_roots_of_a_mailbox_are_told_in_order(rt: HostRuntime) -> Result<(), Fail> {
-    let alloc = rt.alloc();
-    let mut state = open(&rt, alloc, FixedKeeper::new(alloc)?, 8)?;
-    let table: [(&[u8], &[u32]); 4] = [
-        (b"INBOX", &[0]),
-        (b"Lists", &[0, 1]),
-        (b"Lists.rattle", &[0, 1]),
-        (b"Trash", &[]),
-    ];
-    for (name, expected) in table {
-        let mailbox = Name::of(alloc, name)?;
-        let reply = state.serve(alloc, 0, Call::Roots { mailbox }, b"")?;
-        match &reply {
-            Reply::Roots(rows) => {
-                let numbers = rows.as_slice();
-                assert_eq!(rt; numbers.len(), expected.len());
-                for (row, root) in numbers.iter().zip(expected) {
-                    assert_eq!(rt; row.root, *root);
-                }
-            }
-            _ => return Err("a reply of another call".into()),
-        }
-    }
-    Ok(())
-}
-
-#[test]
-fn usages_are_settled_without_an_entry(rt: HostRuntime) -> Result<(), Fail> {
-    let alloc = rt.alloc();
-    let keeper = keeper(alloc, &[b"1.mx,S=10", b"2.mx"], None, &[])?;
-    let mut state = open(&rt, alloc, keeper, 8)?;
-    assert!(rt; state.root_count() > 0);
-    let usage = state.usage(alloc, 0)?;
-    let expected = Totals {
-        octets: 10,
-        count: 2,
-    };
-    assert_eq!(rt; usage, expected);
-    assert!(rt; is_settled(&state, 0));
-    assert_eq!(rt; state.calls(), 0);
-    Ok(())
-}
-
-#[test]
-fn the_journal_holds_as_many_entries_as_its_setup_says(rt: HostRuntime) -> Result<(), Fail> {
-    let alloc = rt.alloc();
-    let mut state = open(&rt, alloc, FixedKeeper::new(alloc)?, 3)?;
-    for _ in 0..3 {
-        assert!(rt; quota(alloc, &mut state, b"none")?.is_none());
-    }
-    let root = Name::of(alloc, b"")?;
-    let refused = state.serve(alloc, 0, Call::Quota { root }, b"");
-    assert_eq!(rt; refused.err(), Some(StepError::JournalFull { limit: 3 }));
-    assert_eq!(rt; state.calls(), 3);
-    Ok(())
-}
-
-/// Sets the limits of the root of this name: its row then, or none where there is no such root.
-fn set_limits<K: Keeper>(
+/// What the delivery of so many octets is answered, as it is printed.
+fn deliver<K: Keeper>(
     alloc: Global,
     state: &mut AccountState<K>,
-    name: &[u8],
-    limits: Limits,
-) -> Result<Option<RootRow>, Fail> {
-    let root = Name::of(alloc, name)?;
-    let reply = state.serve(alloc, 0, Call::SetLimits { root, limits }, b"")?;
-    match &reply {
-        Reply::LimitsSet(row) => Ok(Some(*row)),
-        Reply::NoRoot => Ok(None),
-        _ => Err("a reply of another call".into()),
+    mailbox: &[u8],
+    octets: usize,
+    letters: &[u8],
+) -> Result<String, Fail> {
+    let bytes = vec![in alloc; b'x'; octets]?;
+    let bytes = bytes.as_slice();
+    if bytes.len() > 67108864 {
+        return Err("too long a message".into());
+    }
+    let call = Call::Deliver {
+        mailbox: Name::of(alloc, mailbox)?,
+        octets: bytes.len() as u64,
+        flags: Flags::among(letters),
+    };
+    let answer = state.serve(alloc, 0, call, bytes);
+    Ok(format!(in alloc; "{answer:?}")?)
+}
+
+/// What a call is answered, as it is printed.
+fn take<K: Keeper>(
+    alloc: Global,
+    state: &mut AccountState<K>,
+    step: Step<'_>,
+) -> Result<String, Fail> {
+    match step {
+        Step::Deliver(mailbox, octets, letters) => deliver(alloc, state, mailbox, octets, letters),
+        Step::Remove(mailbox, base) => {
+            let mailbox = Name::of(alloc, mailbox)?;
+            let base = Name::of(alloc, base)?;
+            answer(alloc, state, Call::Remove { mailbox, base })
+        }
+        Step::Mark(mailbox, base, letters) => {
+            let mailbox = Name::of(alloc, mailbox)?;
+            let base = Name::of(alloc, base)?;
+            let flags = Flags::among(letters);
+            answer(
+                alloc,
+                state,
+                Call::Mark {
+                    mailbox,
+                    base,
+                    flags,
+                },
+            )
+        }
+        Step::Move(from, base, to) => {
+            let from = Name::of(alloc, from)?;
+            let base = Name::of(alloc, base)?;
+            let to = Name::of(alloc, to)?;
+            answer(alloc, state, Call::Move { from, base, to })
+        }
+        Step::Quota(root) => {
+            let root = Name::of(alloc, root)?;
+            answer(alloc, state, Call::Quota { root })
+        }
+        Step::Status(mailbox) => {
+            let mailbox = Name::of(alloc, mailbox)?;
+            answer(alloc, state, Call::Status { mailbox })
+        }
+        Step::ScanPart(index) => answer(alloc, state, Call::ScanPart { index }),
     }
 }
 
-#[test]
-fn new_limits_stand_in_the_ledger_and_are_read_back(rt: HostRuntime) -> Result<(), Fail> {
-    let alloc = rt.alloc();
-    let table: [(Option<u64>, Option<u64>, &[u8]); 4] = [
-        (None, None, b"0S\n1400 1\n"),
-        (Some(1399), None, b"1399S\n1400 1\n"),
-        (None, Some(3), b"3C\n1400 1\n"),
-        (
-            Some(9007199254740991),
-            Some(9007199254740991),
-            b"9007199254740991S,9007199254740991C\n1400 1\n",
-        ),
-    ];
-    for (storage, messages, folded) in table {
-        let limits = Limits::new(storage, messages).ok_or("limits")?;
-        let keeper = keeper(alloc, &[b"1.mx,S=1400"], Some(b"1500S\n"), &[])?;
-        let mut state = open(&rt, alloc, keeper, 8)?;
-        let expected = Some(row(1400, 1, limits));
-        assert_eq!(rt; set_limits(alloc, &mut state, b"", limits)?, expected);
-        assert_eq!(rt; quota(alloc, &mut state, b"")?, expected);
-        assert_eq!(rt; state.calls(), 2);
-        let mut keeper = state.into_keeper();
-        check_ledger(&rt, alloc, &mut keeper, Some(folded))?;
+/// Takes the steps, and checks what each is answered.
+fn take_all<K: Keeper>(
+    rt: &impl Abort,
+    alloc: Global,
+    state: &mut AccountState<K>,
+    steps: &[(Step<'_>, &str)],
+) -> Result<(), Fail> {
+    for (step, expected) in steps {
+        let found = take(alloc, state, *step)?;
+        assert_eq!(rt; found.as_str(), *expected, "{step:?}");
     }
     Ok(())
-}
-
-#[test]
-fn limits_that_are_not_installed_leave_those_before(rt: HostRuntime) -> Result<(), Fail> {
-    let alloc = rt.alloc();
-    let fail = KeepFail {
-        kind: KeepCall::InstallLedger,
-        nth: 2,
-    };
-    let keeper = keeper(alloc, &[b"1.mx,S=1400"], Some(b"1500S\n"), &[fail])?;
-    let mut state = open(&rt, alloc, keeper, 8)?;
-    let old = Limits::new(Some(1500), None).ok_or("limits")?;
-    let new = Limits::new(Some(9000), Some(7)).ok_or("limits")?;
-    // The first install settles the root, and the second fails.
-    let root = Name::of(alloc, b"")?;
-    let refused = state.serve(alloc, 0, Call::SetLimits { root, limits: new }, b"");
-    assert_eq!(rt; refused.err(), Some(StepError::Store));
-    assert!(rt; is_settled(&state, 0));
-    assert_eq!(rt; state.calls(), 1);
-    assert_eq!(rt; quota(alloc, &mut state, b"")?, Some(row(1400, 1, old)));
-    let mut keeper = state.into_keeper();
-    check_ledger(&rt, alloc, &mut keeper, Some(b"1500S\n1400 1\n"))
-}
-
-#[test]
-fn limits_of_an_unknown_root_change_nothing(rt: HostRuntime) -> Result<(), Fail> {
-    let alloc = rt.alloc();
-    let keeper = keeper(alloc, &[b"1.mx,S=1400"], Some(b"1500S\n"), &[])?;
-    let mut state = open(&rt, alloc, keeper, 8)?;
-    let new = Limits::new(Some(9000), Some(7)).ok_or("limits")?;
-    assert!(rt; set_limits(alloc, &mut state, b"none", new)?.is_none());
-    assert!(rt; !is_settled(&state, 0));
-    assert_eq!(rt; state.calls(), 1);
-    let mut keeper = state.into_keeper();
-    check_ledger(&rt, alloc, &mut keeper, Some(b"1500S\n"))
 }
