@@ -3,7 +3,7 @@ use Rattle.std.proofs.Common.{◌≡◌, ◌≢◌, ℕ, ◌+◌, ◌<◌, ◌�
 use Rattle.std.specs.Prelude.{IfSome, min}
 use Rattle.std.specs.Option.{option_map}
 use Rattle.std.specs.List.{list_any}
-use Rattle.std.proofs.lemmas.Bool.{false≢true}
+use Rattle.std.proofs.lemmas.Bool.{false≢true, cases_lt}
 use Rattle.std.proofs.lemmas.Slice.Eq.{bytes_eq-Decides}
 use Rattle.std.proofs.lemmas.List.Sums.{sum_by-cons, sum_by_push}
 use Rattle.quota_units.specs.declared.flags.Flags.{Flags}
@@ -29,17 +29,16 @@ use Rattle.account_core.specs.Messages.{named_message, changed, with_mailbox}
 use Rattle.account_core.specs.History.{replay, account_after}
 use Rattle.account_core.proofs.DeliveredLemmas.{bases_differ}
 use Rattle.account_ledger.specs.declared.counts.Counts.{Counts}
-use Rattle.account_ledger.specs.declared.book.Book.{Book}
+use Rattle.root_ledgers.specs.declared.book.Book.{Book}
 use Rattle.account_ledger.specs.Messages.{messages_in, is_message, how_many}
 use Rattle.account_ledger.specs.Opening.{opening_account, opening_of}
 use Rattle.account_ledger.specs.Order.{Holds, InOrder}
-use Rattle.account_ledger.specs.Settling.{OnFiles, no_book, book_at}
-use Rattle.std.proofs.lemmas.Bool.{cases_lt}
+use Rattle.root_ledgers.specs.Settling.{OnFiles, no_book, book_at}
 use Rattle.std.proofs.lemmas.List.{get_or_past}
-use Rattle.account_ledger.specs.declared.book.Standing.TheVariants.{Settled, Doubt}
+use Rattle.root_ledgers.specs.declared.book.Standing.TheVariants.{Settled, Doubt}
 use Rattle.account_ledger.specs.States.{State, account_of}
 use Rattle.account_ledger.specs.Serving.{Leaves, OfAccount, Opened}
-use Rattle.account_ledger.proofs.Changing.{changes_weaken}
+use Rattle.keeper.proofs.Changing.{changes_weaken}
 use Rattle.account_ledger.proofs.Replying.{of_weaker, of_both}
 use Rattle.account_ledger.proofs.Served.{account_moved, account_back}
 use Rattle.account_ledger.proofs.Weighing.{weigh, told_by, is_mailbox_of, rows_weigh}

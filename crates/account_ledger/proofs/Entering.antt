@@ -6,7 +6,7 @@ use Rattle.quota_units.specs.Limiting.{LimitNumbers}
 use Rattle.quota_roots.specs.declared.root.RootSpec.{RootSpec}
 use Rattle.quota_roots.specs.declared.setup.Setup.{Setup}
 use Rattle.keeper.specs.Files.{Files}
-use Rattle.keeper.specs.Calls.{Told}
+use Rattle.keeper.specs.Calls.{Told, Changes}
 use Rattle.keeper.specs.Causes.{Rose}
 use Rattle.account_core.specs.declared.calls.Call.{Call}
 use Rattle.account_core.specs.declared.calls.Call.TheVariants.{Deliver, Check, Remove, Mark, Move, Quota, SetLimits, Roots, Status, ScanBegin, ScanPart, Install}
@@ -16,14 +16,13 @@ use Rattle.account_core.specs.History.{replay, entry_of}
 use Rattle.account_core.specs.Legality.{MayBeServed, AreServed, fault_count}
 use Rattle.account_core.proofs.Replaying.{replay_more}
 use Rattle.account_ledger.specs.declared.counts.Counts.{Counts}
-use Rattle.account_ledger.specs.declared.book.Book.{Book}
+use Rattle.root_ledgers.specs.declared.book.Book.{Book}
 use Rattle.account_ledger.specs.Opening.{opening_account, opening_of}
 use Rattle.account_ledger.specs.Order.{Holds, InOrder}
 use Rattle.account_ledger.specs.Serving.{IsQuestion, Leaves, OfAccount}
 use Rattle.account_ledger.specs.States.{State, account_of}
 use Rattle.std.specs.Prelude.{IfSome}
 use Rattle.std.specs.Option.{option_map}
-use Rattle.keeper.specs.Calls.{Changes}
 
 one_leaves : (roots : List RootSpec) (call : Call) (fault : Bool) → IsQuestion call → (account : Account) → Leaves roots call fault account
 one_leaves roots (Deliver mailbox octets flags) fault question account = absurd question

@@ -19,13 +19,13 @@ use Rattle.account_core.specs.Messages.{is_message, named_message, how_many, rem
 use Rattle.account_core.specs.History.{replay}
 use Rattle.account_core.proofs.MessageSums.{same_named, none_named, removed_sum, changed_sum}
 use Rattle.account_ledger.specs.declared.counts.Counts.{Counts}
-use Rattle.account_ledger.specs.declared.book.Book.{Book}
+use Rattle.root_ledgers.specs.declared.book.Book.{Book}
 use Rattle.account_ledger.specs.Messages.{message_in, messages_in}
 use Rattle.account_ledger.specs.NamedFiles.{file_named}
 use Rattle.account_ledger.specs.Opening.{opening_account, opening_of}
 use Rattle.account_ledger.specs.Order.{Holds, InOrder}
-use Rattle.account_ledger.specs.Settling.{OnFiles}
-use Rattle.account_ledger.proofs.Changing.{changes_weaken}
+use Rattle.root_ledgers.specs.Settling.{OnFiles}
+use Rattle.keeper.proofs.Changing.{changes_weaken}
 use Rattle.account_ledger.proofs.Weighing.{weigh, is_mailbox_of, rows_weigh}
 use Rattle.account_ledger.proofs.NamedFiles.{named_in, file_has_base, row_there, removed_weighs, renamed_weighs}
 use Rattle.account_ledger.proofs.Shifting.{Shifted, RowsShifted}

@@ -12,41 +12,18 @@ use Rattle.account_core.specs.declared.calls.Entry.{Entry}
 use Rattle.account_core.specs.Account.{Account}
 use Rattle.account_core.specs.History.{replay}
 use Rattle.account_ledger.specs.declared.counts.Counts.{Counts}
-use Rattle.account_ledger.specs.declared.book.Book.{Book}
-use Rattle.account_ledger.specs.declared.book.Standing.TheVariants.{Settled}
+use Rattle.root_ledgers.specs.declared.book.Book.{Book}
+use Rattle.root_ledgers.specs.declared.book.Standing.TheVariants.{Settled}
 use Rattle.account_ledger.specs.Messages.{StandFor}
-use Rattle.account_ledger.specs.Scans.{AreSmall, scan}
-use Rattle.account_ledger.specs.Ledgers.{pair_of, folded, IsRight}
-use Rattle.account_ledger.specs.Settling.{OnFiles, book_at, folded_book, SettlesOrStays, Settling, Marks}
+use Rattle.root_ledgers.specs.Scans.{AreSmall, scan}
+use Rattle.root_ledgers.specs.Ledgers.{pair_of, folded, IsRight}
+use Rattle.root_ledgers.specs.Settling.{OnFiles, book_at, folded_book, SettlesOrStays, Settling, Marks, IsKept}
 use Rattle.account_ledger.specs.Opening.{opening_account}
 use Rattle.account_ledger.specs.States.{usage_at}
-use Rattle.account_ledger.specs.Order.{IsKept, Holds, InOrder}
-use Rattle.account_ledger.proofs.Changing.{changes_then}
+use Rattle.root_ledgers.proofs.Kept.{kept_folded}
+use Rattle.account_ledger.specs.Order.{Holds, InOrder}
+use Rattle.keeper.proofs.Changing.{changes_then}
 use Rattle.account_ledger.proofs.UsageLemmas.{scan_is_usage}
-
-sum_of_one : (totals : Totals) → sum_of (pair_of totals ∷ []) ≡ pair_of totals
-sum_of_one totals =
-    ap (λ n. let x : Pair = record { octets = pos n; count = pos (0 + totals.count) } in x) (zero-add totals.octets)
-    ∙ ap (λ n. let x : Pair = record { octets = pos totals.octets; count = pos n } in x) (zero-add totals.count)
-
--- a folded ledger is right
-pub right_folded : (limits : LimitNumbers) (usage : Totals) (ledger : Option (List ℕ)) → usage.octets < 2 ^ 63 → usage.count < 2 ^ 63 → ledger ≡ Some (folded limits usage)
-    → length (folded limits usage) < 5120 → IsRight limits usage ledger
-right_folded limits usage ledger octets count text short = record {
-  pairs = pair_of usage ∷ [];
-  text = text;
-  short = short;
-  numbers = ((usage, octets, count, refl), tt);
-  sums = sum_of_one usage;
-}
-
-pub kept_folded : (limits : LimitNumbers) (usage scanned : Totals) (ledger : Option (List ℕ)) (book : Book) → scanned ≡ usage → scanned.octets < 2 ^ 63 → scanned.count < 2 ^ 63
-    → book ≡ folded_book limits scanned → ledger ≡ Some (folded limits scanned) → length (folded limits scanned) < 5120 → IsKept limits usage ledger (bytes_of ledger) book
-kept_folded limits usage scanned ledger book same octets count book_is text short = record {
-  totals = ap (λ (b : Book). b.totals) book_is ∙ same;
-  right = subst (λ u. IsRight limits u ledger) same (right_folded limits scanned ledger octets count text short);
-  long = ap (λ (b : Book). b.length) book_is ∙ ap (λ l. length (bytes_of l)) (sym text);
-}
 
 module _ (setup : Setup) (limits : List LimitNumbers) (books books' : List Book) (counts : Counts) (entries : ℕ) (account : Account) (files files' : Files)
     (holds : Holds setup limits books counts entries account files) (most : entries ≤ 524288) where

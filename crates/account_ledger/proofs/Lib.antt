@@ -1,14 +1,8 @@
-pub mod ScanLemmas
-pub mod Changing
-pub mod SettleLemmas
-pub mod LineLemmas
-pub mod Sums
 pub mod Weighing
 pub mod NamedFiles
 pub mod UsageLemmas
 pub mod CountingLemmas
 pub mod Keeping
-pub mod Posting
 pub mod Shifting
 pub mod Bases
 pub mod Replying
@@ -23,7 +17,6 @@ pub mod Removing
 pub mod Moving
 pub mod Lined
 pub mod Served
-pub mod OpenLemmas
 pub mod Opened
 pub mod Limiting
 pub mod Setting

@@ -22,19 +22,19 @@ use Rattle.account_core.specs.Machine.{reply_of, step, limits_after}
 use Rattle.account_core.specs.History.{replay, entry_of}
 use Rattle.account_core.proofs.Replaying.{replay_more}
 use Rattle.account_ledger.specs.declared.counts.Counts.{Counts}
-use Rattle.account_ledger.specs.declared.book.Book.{Book}
-use Rattle.account_ledger.specs.declared.book.Standing.TheVariants.{Settled}
+use Rattle.root_ledgers.specs.declared.book.Book.{Book}
+use Rattle.root_ledgers.specs.declared.book.Standing.TheVariants.{Settled}
 use Rattle.account_ledger.specs.Messages.{StandFor}
-use Rattle.account_ledger.specs.Scans.{AreSmall}
-use Rattle.account_ledger.specs.Ledgers.{folded}
-use Rattle.account_ledger.specs.Settling.{OnFiles, no_book, book_at, standings_of, folded_book}
+use Rattle.root_ledgers.specs.Scans.{AreSmall}
+use Rattle.root_ledgers.specs.Ledgers.{folded}
+use Rattle.root_ledgers.specs.Settling.{OnFiles, no_book, book_at, standings_of, folded_book, IsKept}
 use Rattle.account_ledger.specs.Opening.{opening_account, opening_of}
 use Rattle.account_ledger.specs.States.{usage_at}
-use Rattle.account_ledger.specs.Order.{IsKept, Holds, InOrder}
-use Rattle.account_ledger.proofs.Changing.{changes_then}
+use Rattle.account_ledger.specs.Order.{Holds, InOrder}
+use Rattle.keeper.proofs.Changing.{changes_then}
 use Rattle.account_ledger.specs.Serving.{Leaves}
 use Rattle.account_ledger.proofs.Entering.{excused_still, excused_more, order_noted, served_more, of_every}
-use Rattle.account_ledger.proofs.Keeping.{kept_folded}
+use Rattle.root_ledgers.proofs.Kept.{kept_folded}
 use Rattle.account_ledger.proofs.Replying.{limits_some}
 use Rattle.account_ledger.proofs.Stating.{of_account}
 

@@ -17,19 +17,19 @@ use Rattle.account_core.specs.declared.calls.Entry.{Entry}
 use Rattle.account_core.specs.Account.{Account}
 use Rattle.account_core.specs.History.{replay}
 use Rattle.account_ledger.specs.declared.counts.Counts.{Counts}
-use Rattle.account_ledger.specs.declared.book.Book.{Book}
-use Rattle.account_ledger.specs.declared.book.Standing.{Standing}
-use Rattle.account_ledger.specs.declared.book.Standing.TheVariants.{Settled, Doubt}
-use Rattle.account_ledger.specs.declared.change.Change.{Change}
-use Rattle.account_ledger.specs.Ledgers.{folded}
-use Rattle.account_ledger.specs.Lines.{change_at, line_by, totals_by, has_room, LineLedger, fallen_at, changed_book, BookBy, LedgerBy, BookLined, LedgerLined, BooksLined, LedgersLined, fell_below, HasCauses}
+use Rattle.root_ledgers.specs.declared.book.Book.{Book}
+use Rattle.root_ledgers.specs.declared.book.Standing.{Standing}
+use Rattle.root_ledgers.specs.declared.book.Standing.TheVariants.{Settled, Doubt}
+use Rattle.root_ledgers.specs.declared.change.Change.{Change}
+use Rattle.root_ledgers.specs.Ledgers.{folded}
+use Rattle.root_ledgers.specs.Lines.{change_at, line_by, totals_by, has_room, LineLedger, fallen_at, changed_book, BookBy, LedgerBy, BookLined, LedgerLined, BooksLined, LedgersLined, fell_below, HasCauses}
 use Rattle.account_ledger.specs.Opening.{opening_account, opening_of}
 use Rattle.account_ledger.specs.Order.{Holds, InOrder}
-use Rattle.account_ledger.specs.Settling.{OnFiles, no_book, book_at, standings_of, lengths_of}
+use Rattle.root_ledgers.specs.Settling.{OnFiles, no_book, book_at, standings_of, lengths_of}
 use Rattle.account_ledger.specs.States.{standing_at, length_at, usage_at}
 use Rattle.account_ledger.specs.Serving.{LineStanding, LineAt}
 use Rattle.account_ledger.proofs.Stating.{standing_of}
-use Rattle.account_ledger.proofs.Sums.{same_below}
+use Rattle.root_ledgers.proofs.Sums.{same_below}
 
 pub length_of : (books : List Book) (root : ℕ) → length_at (lengths_of books) root ≡ (book_at books root).length
 length_of books root = get_or-map (λ (b : Book). b.length) books root no_book

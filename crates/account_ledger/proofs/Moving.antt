@@ -24,13 +24,13 @@ use Rattle.account_core.specs.Machine.{has_mailbox, over_of, over_or, gaining, m
 use Rattle.account_core.proofs.MessageSums.{named_base, none_named}
 use Rattle.account_core.proofs.Moving.{move_is}
 use Rattle.account_ledger.specs.declared.counts.Counts.{Counts}
-use Rattle.account_ledger.specs.declared.book.Book.{Book}
+use Rattle.root_ledgers.specs.declared.book.Book.{Book}
 use Rattle.account_ledger.specs.Messages.{message_in}
 use Rattle.account_ledger.specs.NamedFiles.{IsThere, file_named}
 use Rattle.account_ledger.specs.Opening.{opening_of, opening_account}
 use Rattle.account_ledger.specs.Order.{Holds, InOrder}
 use Rattle.account_ledger.specs.Serving.{OfAccount, RenamesFile}
-use Rattle.account_ledger.specs.Settling.{OnFiles}
+use Rattle.root_ledgers.specs.Settling.{OnFiles}
 use Rattle.account_ledger.specs.States.{State, account_of}
 use Rattle.account_ledger.proofs.Weighing.{is_mailbox_of}
 use Rattle.account_ledger.proofs.NamedFiles.{file_has_base}

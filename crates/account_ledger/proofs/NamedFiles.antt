@@ -12,7 +12,7 @@ use Rattle.message_names.specs.Parts.{base_of}
 use Rattle.account_core.specs.Account.{Message}
 use Rattle.account_core.specs.Messages.{is_message, named_message}
 use Rattle.account_ledger.specs.Messages.{message_in, messages_of, messages_in}
-use Rattle.account_ledger.specs.Opening.{base_in}
+use Rattle.account_opening.specs.Bases.{base_in}
 use Rattle.account_ledger.specs.NamedFiles.{file_named}
 use Rattle.account_ledger.proofs.Weighing.{weigh, told_by, is_mailbox_of}
 

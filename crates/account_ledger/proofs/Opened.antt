@@ -20,16 +20,19 @@ use Rattle.message_names.specs.Parts.{unique_of}
 use Rattle.account_core.specs.Account.{Message}
 use Rattle.account_core.specs.Delivering.{delivered_base}
 use Rattle.account_ledger.specs.declared.counts.Counts.{Counts}
-use Rattle.account_ledger.specs.declared.book.Book.{Book}
-use Rattle.account_ledger.specs.declared.book.Standing.TheVariants.{Settled, Doubt}
+use Rattle.root_ledgers.specs.declared.book.Book.{Book}
+use Rattle.root_ledgers.specs.declared.book.Standing.TheVariants.{Settled, Doubt}
 use Rattle.account_ledger.specs.Messages.{message_in, messages_of, messages_in, is_message, how_many}
-use Rattle.account_ledger.specs.Settling.{book_at}
-use Rattle.account_ledger.specs.Opening.{opening_account, opening_limits, listings, how_many_files, base_in, times_in, double_in, first_double, is_of_epoch, used_in, first_used, CanOpen}
-use Rattle.account_ledger.specs.Scans.{AreSmall}
+use Rattle.root_ledgers.specs.Settling.{book_at}
+use Rattle.account_ledger.specs.Opening.{opening_account}
+use Rattle.account_opening.specs.Limits.{opening_limits}
+use Rattle.account_opening.specs.Bases.{listings, how_many_files, base_in, times_in, double_in, first_double, is_of_epoch, used_in, first_used}
+use Rattle.account_opening.specs.Admitting.{CanOpen}
+use Rattle.root_ledgers.specs.Scans.{AreSmall}
 use Rattle.keeper.specs.Calls.{Told, Changes}
 use Rattle.account_ledger.specs.Order.{Holds, InOrder}
-use Rattle.account_ledger.proofs.Changing.{changes_weaken}
-use Rattle.account_ledger.proofs.Sums.{same_sums, sum_map, sum_flat_map, sum_none, sum_ones}
+use Rattle.keeper.proofs.Changing.{changes_weaken}
+use Rattle.root_ledgers.proofs.Sums.{same_sums, sum_map, sum_flat_map, sum_none, sum_ones}
 
 -- the messages are as many as the files
 few_messages : (mailboxes : List (List ℕ)) (rows : List Row) → length (messages_in mailboxes rows) ≡ how_many_files (listings mailboxes rows)

@@ -16,13 +16,13 @@ use Rattle.account_core.specs.History.{replay, entry_of}
 use Rattle.account_core.specs.Legality.{MayBeServed}
 use Rattle.account_core.proofs.Replaying.{replay_more}
 use Rattle.account_ledger.specs.declared.counts.Counts.{Counts}
-use Rattle.account_ledger.specs.declared.book.Book.{Book}
-use Rattle.account_ledger.specs.Lines.{change_at, BooksLined, LedgersLined}
+use Rattle.root_ledgers.specs.declared.book.Book.{Book}
+use Rattle.root_ledgers.specs.Lines.{change_at, BooksLined, LedgersLined}
 use Rattle.account_ledger.specs.Opening.{opening_account, opening_of}
 use Rattle.account_ledger.specs.Order.{Holds, InOrder}
-use Rattle.account_ledger.specs.Scans.{AreSmall}
-use Rattle.account_ledger.specs.Settling.{OnFiles}
-use Rattle.account_ledger.proofs.Changing.{changes_weaken}
+use Rattle.root_ledgers.specs.Scans.{AreSmall}
+use Rattle.root_ledgers.specs.Settling.{OnFiles}
+use Rattle.keeper.proofs.Changing.{changes_weaken}
 use Rattle.account_ledger.proofs.Entering.{served_more, excused_still}
 use Rattle.account_ledger.proofs.Shifting.{RowsShifted, Moves, box_of, holds_shifted}
 

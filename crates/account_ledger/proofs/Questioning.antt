@@ -19,16 +19,16 @@ use Rattle.account_core.specs.History.{replay}
 use Rattle.account_core.specs.declared.calls.Entry.{Entry}
 use Rattle.account_core.specs.declared.calls.Reply.TheVariants.{NoMailbox, Status, Part}
 use Rattle.account_ledger.specs.declared.counts.Counts.{Counts}
-use Rattle.account_ledger.specs.declared.book.Book.{Book}
+use Rattle.root_ledgers.specs.declared.book.Book.{Book}
 use Rattle.account_ledger.specs.declared.counting.MailboxSums.{MailboxSums}
 use Rattle.account_ledger.specs.Counting.{TellMailbox, mailbox_at, sums_of, unseen_of, deleted_of, deleted_size_of}
 use Rattle.account_ledger.specs.Messages.{message_in}
 use Rattle.account_ledger.specs.Opening.{opening_account, opening_of}
 use Rattle.account_ledger.specs.Order.{Holds, InOrder}
-use Rattle.account_ledger.specs.Scans.{cut, cut_totals, sizes_of}
+use Rattle.root_ledgers.specs.Scans.{cut, cut_totals, sizes_of}
 use Rattle.account_ledger.proofs.CountingLemmas.{listed_tell}
 use Rattle.account_ledger.proofs.Replying.{of_both}
-use Rattle.account_ledger.proofs.Sums.{sum_ones}
+use Rattle.root_ledgers.proofs.Sums.{sum_ones}
 use Rattle.account_ledger.proofs.Weighing.{is_mailbox_of}
 
 -- the files of a mailbox of the account tell its messages

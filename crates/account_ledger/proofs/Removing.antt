@@ -5,7 +5,7 @@ use Rattle.quota_units.specs.declared.flags.Flags.{Flags}
 use Rattle.quota_units.specs.Limiting.{LimitNumbers}
 use Rattle.quota_roots.specs.declared.root.RootSpec.{RootSpec}
 use Rattle.quota_roots.specs.declared.setup.Setup.{Setup}
-use Rattle.keeper.specs.Files.{Files}
+use Rattle.keeper.specs.Files.{Files, listed, has_row, ledger_at, removed as removed_row, renamed as renamed_row}
 use Rattle.account_core.specs.declared.calls.Call.TheVariants.{Remove, Mark}
 use Rattle.account_core.specs.declared.calls.Reply.{Reply}
 use Rattle.account_core.specs.declared.calls.Reply.TheVariants.{NoMailbox, NoMessage, Removed, Marked}
@@ -15,20 +15,19 @@ use Rattle.account_core.specs.Messages.{is_message, named_message, how_many, rem
 use Rattle.account_core.specs.Machine.{has_mailbox, if_message, message_reply, removed_after, marked_after, step}
 use Rattle.account_core.proofs.MessageSums.{named_mailbox, named_base}
 use Rattle.account_ledger.specs.declared.counts.Counts.{Counts}
-use Rattle.account_ledger.specs.declared.book.Book.{Book}
+use Rattle.root_ledgers.specs.declared.book.Book.{Book}
 use Rattle.account_ledger.specs.Order.{Holds, InOrder}
 use Rattle.std.specs.Prelude.{IfSome}
 use Rattle.std.specs.Option.{option_map}
-use Rattle.keeper.specs.Files.{listed, has_row, ledger_at, removed as removed_row, renamed as renamed_row}
 use Rattle.keeper.specs.Calls.{Told, Changes}
 use Rattle.keeper.specs.declared.rows.FileRow.{FileRow}
 use Rattle.message_names.specs.Parts.{unique_of, base_of}
 use Rattle.message_names.specs.Messages.{FileMessage, message_of, octets_of}
 use Rattle.quota_roots.specs.Governing.{governs_at}
 use Rattle.std.proofs.lemmas.Bool.{false≢true}
-use Rattle.account_ledger.specs.declared.book.Standing.{Standing}
-use Rattle.account_ledger.specs.Lines.{change_by, change_at, BookLined, LedgerLined, BooksLined, LedgersLined}
-use Rattle.account_ledger.proofs.Changing.{changes_same}
+use Rattle.root_ledgers.specs.declared.book.Standing.{Standing}
+use Rattle.root_ledgers.specs.Lines.{change_by, change_at, BookLined, LedgerLined, BooksLined, LedgersLined}
+use Rattle.keeper.proofs.Changing.{changes_same}
 use Rattle.account_ledger.proofs.Entering.{of_every}
 use Rattle.message_names.specs.Sizes.{size_named, size_or}
 use Rattle.account_core.specs.declared.calls.Entry.{Entry}
@@ -37,7 +36,7 @@ use Rattle.account_ledger.specs.Messages.{message_in}
 use Rattle.account_ledger.specs.NamedFiles.{file_named}
 use Rattle.account_ledger.specs.Opening.{opening_of}
 use Rattle.account_ledger.specs.Serving.{HasNamed, Leaves}
-use Rattle.account_ledger.specs.Settling.{OnFiles, book_at}
+use Rattle.root_ledgers.specs.Settling.{OnFiles, book_at}
 use Rattle.account_ledger.proofs.Weighing.{is_mailbox_of}
 use Rattle.account_ledger.proofs.NamedFiles.{row_there, file_has_base}
 use Rattle.account_ledger.proofs.Ordering.{FilesShifted}

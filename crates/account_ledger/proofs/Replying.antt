@@ -1,15 +1,14 @@
 -- What the machine replies, by what is kept of the roots.
 use Rattle.std.proofs.Common.{◌≡◌, ℕ, suc, ◌+◌, ◌<◌, ◌≤◌, ◌↔◌, Bool, true, false, cond, not, nat_lt, nat_le, inl, inr, List, [], ◌∷◌, ◌++◌, length, get_or, map, filter, Option, Some, None, refl, sym, ap, ◌∙◌, arith, add-zero, bytes_eq, find}
 use Rattle.std.specs.Prelude.{IfSome}
-use Rattle.std.specs.List.{range_with_len, filter_map, cons_option, slice_get, position_or_len}
+use Rattle.std.specs.List.{range_with_len, filter_map, cons_option, slice_get, position_or_len, All}
 use Rattle.std.specs.Option.{option_map}
 use Rattle.std.proofs.lemmas.Bool.Decides.{nat_tests}
-use Rattle.std.specs.List.{All}
 use Rattle.std.proofs.lemmas.Bool.{cases_lt}
 use Rattle.std.proofs.lemmas.List.{get_or_past}
 use Rattle.quota_units.specs.Limiting.{LimitNumbers, IsLimit, AreLimits}
 use Rattle.quota_units.specs.declared.resource.Resource.TheVariants.{Storage, Message as MessageCount}
-use Rattle.account_ledger.specs.Scans.{cut}
+use Rattle.root_ledgers.specs.Scans.{cut}
 use Rattle.quota_units.specs.declared.totals.Totals.{Totals}
 use Rattle.quota_units.specs.declared.resource.Resource.{Resource}
 use Rattle.quota_roots.specs.declared.root.RootSpec.{RootSpec}

@@ -14,15 +14,15 @@ use Rattle.account_core.specs.declared.calls.StepError.TheVariants.{NoMemory, St
 use Rattle.account_core.specs.Account.{Account}
 use Rattle.account_core.specs.Machine.{reply_of}
 use Rattle.account_core.specs.History.{entry_of}
-use Rattle.account_ledger.specs.declared.book.Standing.{Standing}
-use Rattle.account_ledger.specs.declared.book.Standing.TheVariants.{Settled, Doubt}
-use Rattle.account_ledger.specs.Settling.{OnFiles, MarksOne}
+use Rattle.root_ledgers.specs.declared.book.Standing.{Standing}
+use Rattle.root_ledgers.specs.declared.book.Standing.TheVariants.{Settled, Doubt}
+use Rattle.root_ledgers.specs.Settling.{OnFiles, MarksOne}
 use Rattle.account_ledger.specs.States.{State, standing_at, account_of}
 use Rattle.account_ledger.specs.Serving.{Opened, Enters, OfAccount, SettlesSome, SettlesLedgers, AreFolded, IsSettledNow, IsQuestion, LedgersStay, StayCalm, SettledFor, ServesLedgers, ServesRows, RowsFor, Serves, WritesBy, WritesFor, misses, needs}
 use Rattle.quota_roots.specs.declared.root.RootSpec.{RootSpec}
 use Rattle.quota_roots.specs.declared.setup.Setup.{Setup}
 use Rattle.account_ledger.proofs.Answering.{same_account}
-use Rattle.account_ledger.proofs.Changing.{changes_then, changes_weaken, changes_same}
+use Rattle.keeper.proofs.Changing.{changes_then, changes_weaken, changes_same}
 
 pub opened_then : (s m s' : State) → Opened s m → Opened m s' → Opened s s'
 opened_then s m s' a b = record { setup = b.setup ∙ a.setup; epoch = b.epoch ∙ a.epoch; opening = b.opening ∙ a.opening; first_faults = b.first_faults ∙ a.first_faults }

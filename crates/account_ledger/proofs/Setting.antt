@@ -10,11 +10,11 @@ use Rattle.account_core.specs.declared.calls.Call.TheVariants.{SetLimits}
 use Rattle.account_core.specs.declared.calls.Reply.TheVariants.{NoRoot}
 use Rattle.account_core.specs.Account.{Account}
 use Rattle.account_core.specs.History.{entry_of}
-use Rattle.account_ledger.specs.declared.book.Standing.TheVariants.{Settled, Doubt}
-use Rattle.account_ledger.specs.Settling.{OnFiles}
+use Rattle.root_ledgers.specs.declared.book.Standing.TheVariants.{Settled, Doubt}
+use Rattle.root_ledgers.specs.Settling.{OnFiles}
 use Rattle.account_ledger.specs.Serving.{Opened, OfAccount, SettlesSome, SettlesLedgers, AreFolded, LedgersStay, Serves, needs}
 use Rattle.account_ledger.specs.States.{State, account_of}
-use Rattle.account_ledger.proofs.Changing.{changes_then, changes_weaken, changes_same}
+use Rattle.keeper.proofs.Changing.{changes_then, changes_weaken, changes_same}
 use Rattle.account_ledger.proofs.Replying.{of_weaker, limits_none}
 
 abbrev pub SameRows : Told → Told → Type 0

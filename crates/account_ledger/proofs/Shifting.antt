@@ -17,19 +17,19 @@ use Rattle.account_core.specs.Account.{Account, Message, usage}
 use Rattle.account_core.specs.Delivering.{delivered_base}
 use Rattle.account_core.proofs.Admitting.{totals_at-usages}
 use Rattle.account_ledger.specs.declared.counts.Counts.{Counts}
-use Rattle.account_ledger.specs.declared.book.Book.{Book}
-use Rattle.account_ledger.specs.declared.book.Standing.{Standing}
-use Rattle.account_ledger.specs.declared.book.Standing.TheVariants.{Settled, Doubt}
-use Rattle.account_ledger.specs.declared.change.Change.{Change}
+use Rattle.root_ledgers.specs.declared.book.Book.{Book}
+use Rattle.root_ledgers.specs.declared.book.Standing.{Standing}
+use Rattle.root_ledgers.specs.declared.book.Standing.TheVariants.{Settled, Doubt}
+use Rattle.root_ledgers.specs.declared.change.Change.{Change}
 use Rattle.account_ledger.specs.Messages.{messages_in, StandFor, AreSame, is_message, how_many}
-use Rattle.account_ledger.specs.Settling.{book_at}
+use Rattle.root_ledgers.specs.Settling.{book_at, IsKept}
 use Rattle.account_ledger.specs.States.{usage_at}
-use Rattle.account_ledger.specs.Order.{IsKept, Holds}
-use Rattle.account_ledger.specs.Lines.{governs_in, change_by, change_at, changed_book, ChangedLedger, BookBy, LedgerBy, BookLined, LedgerLined, BooksLined, LedgersLined}
-use Rattle.account_ledger.proofs.Sums.{sum_ones}
+use Rattle.account_ledger.specs.Order.{Holds}
+use Rattle.root_ledgers.specs.Lines.{governs_in, change_by, change_at, changed_book, ChangedLedger, BookBy, LedgerBy, BookLined, LedgerLined, BooksLined, LedgersLined}
+use Rattle.root_ledgers.proofs.Sums.{sum_ones}
 use Rattle.account_ledger.proofs.Weighing.{weigh, rows_weigh}
 use Rattle.account_ledger.proofs.UsageLemmas.{no_root, at_most}
-use Rattle.account_ledger.proofs.Posting.{UsageBy, kept_lined}
+use Rattle.root_ledgers.proofs.Posting.{UsageBy, kept_lined}
 
 abbrev pub weight_of : (Message → ℕ) → Option Message → ℕ
 weight_of weight None = 0

@@ -13,27 +13,26 @@ use Rattle.account_core.specs.declared.calls.Entry.{Entry}
 use Rattle.account_core.specs.Account.{Account}
 use Rattle.account_core.specs.History.{replay}
 use Rattle.account_ledger.specs.declared.counts.Counts.{Counts}
-use Rattle.account_ledger.specs.declared.book.Book.{Book}
-use Rattle.account_ledger.specs.declared.book.Standing.{Standing}
-use Rattle.account_ledger.specs.declared.book.Standing.TheVariants.{Settled, Doubt}
-use Rattle.account_ledger.specs.Settling.{OnFiles, no_book, book_at, standings_of, Settling, SettlesOrStays, Marks, MarksOne}
+use Rattle.root_ledgers.specs.declared.book.Book.{Book}
+use Rattle.root_ledgers.specs.declared.book.Standing.{Standing}
+use Rattle.root_ledgers.specs.declared.book.Standing.TheVariants.{Settled, Doubt}
+use Rattle.root_ledgers.specs.Settling.{OnFiles, no_book, book_at, standings_of, Settling, SettlesOrStays, Marks, MarksOne}
 use Rattle.account_ledger.specs.Opening.{opening_of, opening_account}
-use Rattle.account_ledger.specs.Scans.{scan}
-use Rattle.admission.specs.Fitting.{limits_at}
+use Rattle.root_ledgers.specs.Scans.{scan}
+use Rattle.admission.specs.Fitting.{limits_at, first_over, totals_at}
 use Rattle.account_ledger.specs.States.{standing_at, usage_at}
 use Rattle.account_ledger.specs.Order.{Holds, InOrder}
-use Rattle.account_ledger.specs.Ledgers.{folded}
+use Rattle.root_ledgers.specs.Ledgers.{folded}
 use Rattle.account_ledger.specs.Serving.{SettlesLedgers, IsSettledNow, AreFolded}
 use Rattle.account_ledger.proofs.UsageLemmas.{scan_is_usage}
 use Rattle.std.proofs.lemmas.Bool.{cases_lt, and_parts}
 use Rattle.std.specs.List.{range_with_len}
 use Rattle.quota_roots.specs.Governing.{governs_at, governing, gains_at, gaining}
-use Rattle.admission.specs.Fitting.{first_over, totals_at}
 use Rattle.account_core.specs.Machine.{governing_rows, usages, over_in, over_of}
 use Rattle.account_core.proofs.Admitting.{totals_at-usages}
 use Rattle.account_ledger.specs.Rows.{kept_row, kept_rows, totals_of}
-use Rattle.account_ledger.proofs.Changing.{changes_weaken}
-use Rattle.account_ledger.proofs.SettleLemmas.{governed_inside}
+use Rattle.keeper.proofs.Changing.{changes_weaken}
+use Rattle.root_ledgers.proofs.SettleLemmas.{governed_inside}
 use Rattle.account_ledger.proofs.Replying.{no_root, row_at, map_where, governing_rows_are, first_over_where}
 
 pub standing_of : (books : List Book) (root : ℕ) → standing_at (standings_of books) root ≡ (book_at books root).standing

@@ -8,7 +8,7 @@ use Rattle.quota_roots.specs.Setups.{are_different}
 use Rattle.keeper.specs.Files.{Row, is_in, is_named, file_of, listed, removed, renamed, has_row}
 use Rattle.account_core.specs.Account.{Message}
 use Rattle.account_ledger.specs.Messages.{message_in, messages_of, messages_in}
-use Rattle.account_ledger.proofs.Sums.{same_sums, sum_map, sum_none}
+use Rattle.root_ledgers.proofs.Sums.{same_sums, sum_map, sum_none}
 
 abbrev pub is_mailbox_of : List (List ℕ) → List ℕ → Bool
 is_mailbox_of mailboxes name = list_any (λ mailbox. bytes_eq mailbox name) mailboxes

@@ -1,9 +1,4 @@
 pub mod Messages
-pub mod Scans
-pub mod Scanning
-pub mod Ledgers
-pub mod Settling
-pub mod Lines
 pub mod Opening
 pub mod NamedFiles
 pub mod States

@@ -4,7 +4,7 @@ use Rattle.account_core.specs.Account.{Account, Message}
 use Rattle.account_core.specs.Machine.{has_mailbox}
 use Rattle.account_core.specs.Messages.{named_message}
 use Rattle.keeper.specs.declared.rows.FileRow.{FileRow}
-use Rattle.account_ledger.specs.Opening.{base_in}
+use Rattle.account_opening.specs.Bases.{base_in}
 
 -- the first of the files of a mailbox that has this base
 abbrev pub file_named : List ℕ → List FileRow → Option FileRow

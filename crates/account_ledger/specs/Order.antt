@@ -14,12 +14,12 @@ use Rattle.account_core.specs.Delivering.{delivered_base}
 use Rattle.account_core.specs.History.{replay}
 use Rattle.account_core.specs.Legality.{AreServed, fault_count}
 use Rattle.account_ledger.specs.declared.counts.Counts.{Counts}
-use Rattle.account_ledger.specs.declared.book.Book.{Book}
-use Rattle.account_ledger.specs.declared.book.Standing.TheVariants.{Settled}
+use Rattle.root_ledgers.specs.declared.book.Book.{Book}
+use Rattle.root_ledgers.specs.declared.book.Standing.TheVariants.{Settled}
 use Rattle.account_ledger.specs.Messages.{StandFor, how_many}
-use Rattle.account_ledger.specs.Scans.{AreSmall}
-use Rattle.account_ledger.specs.Ledgers.{IsRight}
-use Rattle.account_ledger.specs.Settling.{book_at}
+use Rattle.root_ledgers.specs.Scans.{AreSmall}
+use Rattle.root_ledgers.specs.Ledgers.{IsRight}
+use Rattle.root_ledgers.specs.Settling.{IsKept, book_at}
 use Rattle.account_ledger.specs.Opening.{opening_account}
 use Rattle.account_ledger.specs.States.{State, account_of, standing_at, length_at, usage_at}
 
@@ -41,12 +41,6 @@ pub record Agree (s : State) (account : Account) (files : Files) : Type 0 where
 pub record IsInOrder (s : State) : Type 0 where
   pub legal : IsLegal s
   pub agree : IfSome (account_of s) (λ account. IfSome s.told (λ told. Agree s account told.files))
-
--- what is kept of a settled root: its usage, and the length of its ledger, which is right
-pub record IsKept (limits : LimitNumbers) (usage : Totals) (ledger : Option (List ℕ)) (bytes : List ℕ) (book : Book) : Type 0 where
-  pub totals : book.totals ≡ usage
-  pub right : IsRight limits usage ledger
-  pub long : book.length ≡ length bytes
 
 -- what is kept in memory stands for the account, and so do the files
 pub record Holds (setup : Setup) (limits : List LimitNumbers) (books : List Book) (counts : Counts) (entries : ℕ) (account : Account) (files : Files) : Type 0 where

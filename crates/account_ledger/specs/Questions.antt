@@ -2,7 +2,7 @@
 use Rattle.std.specs.Prelude.{◌≡◌}
 use Rattle.keeper.specs.Calls.{Changes}
 use Rattle.keeper.specs.Causes.{next_count}
-use Rattle.account_ledger.specs.Settling.{OnFiles}
+use Rattle.root_ledgers.specs.Settling.{OnFiles}
 use Rattle.account_ledger.specs.States.{State}
 
 -- a mailbox is listed: nothing of the account, of its roots and of its files changes

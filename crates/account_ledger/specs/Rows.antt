@@ -9,8 +9,8 @@ use Rattle.admission.specs.Fitting.{limits_at}
 use Rattle.admission.specs.declared.verdict.Verdict.{Verdict}
 use Rattle.admission.specs.declared.verdict.Verdict.TheVariants.{Fits, Over}
 use Rattle.account_core.specs.declared.calls.RootRow.{RootRow}
-use Rattle.account_ledger.specs.declared.book.Book.{Book}
-use Rattle.account_ledger.specs.Settling.{book_at}
+use Rattle.root_ledgers.specs.declared.book.Book.{Book}
+use Rattle.root_ledgers.specs.Settling.{book_at}
 
 abbrev pub kept_row : List LimitNumbers → List Book → ℕ → RootRow
 kept_row limits books root = record {

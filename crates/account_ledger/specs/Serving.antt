@@ -24,13 +24,13 @@ use Rattle.keeper.specs.declared.rows.FileRow.{FileRow}
 use Rattle.keeper.specs.Calls.{Changes, Writes}
 use Rattle.keeper.specs.Causes.{Rose, next_count}
 use Rattle.account_core.specs.Account.{Account}
-use Rattle.account_ledger.specs.declared.book.Standing.{Standing}
-use Rattle.account_ledger.specs.declared.book.Standing.TheVariants.{Settled, Doubt}
-use Rattle.account_ledger.specs.Settling.{OnFiles, MarksOne}
-use Rattle.account_ledger.specs.declared.change.Change.{Change}
+use Rattle.root_ledgers.specs.declared.book.Standing.{Standing}
+use Rattle.root_ledgers.specs.declared.book.Standing.TheVariants.{Settled, Doubt}
+use Rattle.root_ledgers.specs.Settling.{OnFiles, MarksOne}
+use Rattle.root_ledgers.specs.declared.change.Change.{Change}
 use Rattle.account_ledger.specs.NamedFiles.{file_named}
-use Rattle.account_ledger.specs.Ledgers.{folded}
-use Rattle.account_ledger.specs.Lines.{change_at, line_by, has_room, LineLedger, fallen_at, HasCauses}
+use Rattle.root_ledgers.specs.Ledgers.{folded}
+use Rattle.root_ledgers.specs.Lines.{change_at, line_by, has_room, LineLedger, fallen_at, HasCauses}
 use Rattle.account_ledger.specs.States.{State, standing_at, length_at, usage_at, account_of}
 
 -- what was opened stays

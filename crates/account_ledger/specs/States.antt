@@ -12,8 +12,8 @@ use Rattle.account_core.specs.Machine.{usages}
 use Rattle.account_core.specs.History.{replay}
 use Rattle.account_core.specs.Histories.{Origin}
 use Rattle.account_ledger.specs.Opening.{opening_of}
-use Rattle.account_ledger.specs.declared.book.Standing.{Standing}
-use Rattle.account_ledger.specs.declared.book.Standing.TheVariants.{Doubt}
+use Rattle.root_ledgers.specs.declared.book.Standing.{Standing}
+use Rattle.root_ledgers.specs.declared.book.Standing.TheVariants.{Doubt}
 
 pub record State : Type 0 where
   -- what the keeper tells and counts

@@ -11,21 +11,21 @@ ghost use Rattle.account_core.specs.Delivering.{delivered_base};
 ghost use Rattle.account_core.specs.History.{entry_of};
 ghost use Rattle.account_core.specs.Machine.{has_mailbox, over_in, reply_of};
 ghost use Rattle.account_core.specs.Legality.{MayBeServed, fault_count};
-ghost use Rattle.account_ledger.specs.declared.book.Standing.TheVariants.{Settled};
+ghost use Rattle.root_ledgers.specs.declared.book.Standing.TheVariants.{Settled};
 ghost use Rattle.account_ledger.specs.Rows.{IsVerdict};
 ghost use Rattle.account_ledger.specs.Serving.{Enters, Leaves, LedgersStay, SettlesSome, ServesRows, WritesBy, misses, OfAccount, Opened, Serves, StayCalm, WritesLines};
-ghost use Rattle.account_ledger.specs.Settling.{OnFiles};
+ghost use Rattle.root_ledgers.specs.Settling.{OnFiles};
 ghost use Rattle.account_ledger.specs.States.{standing_at};
 
 use crate::AccountState;
 use crate::counts::Counts;
 use crate::fault::step_error;
-use crate::lines::post_all;
 use account_core::{Call, Entry, Reply, StepError, delivered_base};
 use admission::Verdict;
 use keeper::Keeper;
 use message_names::{NameFault, print_name};
 use quota_units::{Flags, Name};
+use root_ledgers::write_lines;
 use std::alloc::{AllocError, Global};
 
 /// The file name of the delivery of this number.
@@ -194,7 +194,7 @@ impl<K: Keeper> AccountState<K> {
         }
         // The account has at most four roots.
         let _count = self.setup.roots.count();
-        post_all(
+        write_lines(
             &mut self.keeper,
             &self.setup.roots,
             &self.limits,

@@ -5,17 +5,17 @@ ghost use Rattle.keeper.specs.Calls.{Changes};
 ghost use Rattle.keeper.specs.Causes.{HasCause};
 ghost use Rattle.account_core.specs.History.{entry_of};
 ghost use Rattle.account_core.specs.Machine.{reply_of};
-ghost use Rattle.account_ledger.specs.declared.book.Standing.TheVariants.{Settled};
+ghost use Rattle.root_ledgers.specs.declared.book.Standing.TheVariants.{Settled};
 ghost use Rattle.account_ledger.specs.Serving.{InstallsLimits, LedgersStay, OfAccount, Opened, Serves};
-ghost use Rattle.account_ledger.specs.Settling.{OnFiles};
+ghost use Rattle.root_ledgers.specs.Settling.{OnFiles};
 ghost use Rattle.account_ledger.specs.States.{standing_at};
 
 use crate::AccountState;
-use crate::book::{Book, Standing};
 use account_core::{Call, Entry, Reply, RootRow, StepError};
 use keeper::{Failed, Keeper};
 use maildirsize::{Text, print_folded};
 use quota_units::{Limits, Name};
+use root_ledgers::{Book, Standing};
 use std::alloc::Global;
 
 impl<K: Keeper> AccountState<K> {

@@ -7,7 +7,7 @@ ghost use Rattle.keeper.specs.Files.{listed};
 ghost use Rattle.account_core.specs.Machine.{reply_of};
 ghost use Rattle.account_ledger.specs.NamedFiles.{file_named};
 ghost use Rattle.account_ledger.specs.Serving.{Enters, OfAccount, Opened, Serves, ServesRows, WritesBy, misses};
-ghost use Rattle.account_ledger.specs.Settling.{OnFiles};
+ghost use Rattle.root_ledgers.specs.Settling.{OnFiles};
 
 use crate::AccountState;
 use crate::fault::step_error;

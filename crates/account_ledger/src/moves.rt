@@ -7,25 +7,23 @@ ghost use Rattle.keeper.specs.Causes.{HasCause, Rose};
 ghost use Rattle.keeper.specs.Files.{listed};
 ghost use Rattle.account_core.specs.Machine.{over_of, reply_of};
 ghost use Rattle.account_core.specs.Legality.{MayMove};
-ghost use Rattle.account_ledger.specs.declared.book.Standing.TheVariants.{Settled};
+ghost use Rattle.root_ledgers.specs.declared.book.Standing.TheVariants.{Settled};
 ghost use Rattle.account_ledger.specs.Messages.{message_in};
 ghost use Rattle.account_ledger.specs.NamedFiles.{IsThere, file_named};
 ghost use Rattle.account_ledger.specs.Rows.{IsVerdict};
 ghost use Rattle.account_ledger.specs.Serving.{Enters, OfAccount, Opened, Serves, ServesRows, SettlesSome, WritesBy, misses};
-ghost use Rattle.account_ledger.specs.Settling.{OnFiles};
+ghost use Rattle.root_ledgers.specs.Settling.{OnFiles};
 ghost use Rattle.account_ledger.specs.States.{standing_at};
 
 use crate::AccountState;
 use crate::fault::step_error;
-use crate::lines::post_all;
 use crate::named::rename_file;
 use crate::rows::{are_limits, totals_of};
-use crate::scan::{MOST, size_of_file};
-use crate::settle::settle_gaining;
 use account_core::{Call, Entry, Reply, StepError};
 use admission::{Verdict, admit};
 use keeper::{FileRow, Keeper};
 use quota_units::Name;
+use root_ledgers::{MOST, settle_gaining, size_of_file, write_lines};
 use std::alloc::{AllocError, Global};
 
 impl<K: Keeper> AccountState<K> {
@@ -248,7 +246,7 @@ impl<K: Keeper> AccountState<K> {
         }
         // The account has at most four roots.
         let _count = self.setup.roots.count();
-        post_all(
+        write_lines(
             &mut self.keeper,
             &self.setup.roots,
             &self.limits,

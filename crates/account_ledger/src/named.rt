@@ -9,7 +9,7 @@ ghost use Rattle.keeper.specs.Calls.{Changes, Renames};
 ghost use Rattle.keeper.specs.Causes.{HasCause};
 ghost use Rattle.account_ledger.specs.NamedFiles.{file_named};
 ghost use Rattle.account_ledger.specs.Serving.{LedgersStay, OfAccount, Opened};
-ghost use Rattle.account_ledger.specs.Settling.{OnFiles};
+ghost use Rattle.root_ledgers.specs.Settling.{OnFiles};
 
 use crate::AccountState;
 use crate::fault::step_error;

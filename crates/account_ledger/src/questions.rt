@@ -11,9 +11,9 @@ ghost use Rattle.account_ledger.specs.Serving.{OfAccount, Opened, SettlesSome};
 use crate::AccountState;
 use crate::counting::{sets_of, sums_of};
 use crate::fault::step_error;
-use crate::scan::totals_of;
 use account_core::{Call, Reply, RootSets, StepError};
 use keeper::{FileRow, KeepError, Keeper};
+use root_ledgers::totals_of_files;
 use std::alloc::{AllocError, Global};
 
 impl<K: Keeper> AccountState<K> {
@@ -117,7 +117,7 @@ impl<K: Keeper> AccountState<K> {
             Ok(files) => files,
             Err(fault) => return Err(step_error(fault)),
         };
-        let totals = totals_of(&files);
+        let totals = totals_of_files(&files);
         Ok(Reply::Part {
             generation,
             octets: totals.octets,

@@ -8,14 +8,13 @@ ghost use Rattle.account_core.specs.Legality.{MayBeServed};
 ghost use Rattle.account_core.specs.Machine.{reply_of};
 ghost use Rattle.account_ledger.specs.NamedFiles.{file_named};
 ghost use Rattle.account_ledger.specs.Serving.{Enters, OfAccount, Opened, Serves, ServesRows, WritesBy, misses};
-ghost use Rattle.account_ledger.specs.Settling.{OnFiles};
+ghost use Rattle.root_ledgers.specs.Settling.{OnFiles};
 
 use crate::AccountState;
-use crate::lines::post_all;
-use crate::scan::size_of_file;
 use account_core::{Call, Entry, Reply, StepError};
 use keeper::{FileRow, Keeper};
 use quota_units::Name;
+use root_ledgers::{size_of_file, write_lines};
 use std::alloc::Global;
 
 impl<K: Keeper> AccountState<K> {
@@ -82,7 +81,7 @@ impl<K: Keeper> AccountState<K> {
         }
         // The account has at most four roots.
         let _count = self.setup.roots.count();
-        post_all(
+        write_lines(
             &mut self.keeper,
             &self.setup.roots,
             &self.limits,

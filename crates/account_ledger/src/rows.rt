@@ -1,13 +1,13 @@
 // Rows and totals of roots, by what is kept of them.
 ghost use Rattle.std.specs.Prelude.{◌≡◌, ◌<◌, length, IfOk, All};
 ghost use Rattle.quota_units.specs.Limiting.{AreLimits};
-ghost use Rattle.account_ledger.specs.Scans.{AreSmall};
+ghost use Rattle.root_ledgers.specs.Scans.{AreSmall};
 ghost use Rattle.account_ledger.specs.Rows.{kept_row, kept_rows, totals_of};
 
-use crate::book::Book;
 use account_core::{RootRow, RootRows};
 use quota_roots::Roots;
 use quota_units::{Limits, Totals};
+use root_ledgers::Book;
 use std::alloc::{AllocError, Global};
 
 fn row(limits: &[Limits], books: &[Book], root: u32) -> RootRow

@@ -12,23 +12,22 @@ ghost use Rattle.account_core.specs.Legality.{MayBeServed, fault_count};
 ghost use Rattle.account_core.specs.History.{entry_of};
 ghost use Rattle.keeper.specs.Calls.{Changes};
 ghost use Rattle.quota_roots.specs.Setups.{IsSound};
-ghost use Rattle.account_ledger.specs.Opening.{IsRefused, MayOpen};
-ghost use Rattle.account_ledger.specs.Settling.{OnFiles};
+ghost use Rattle.account_opening.specs.Admitting.{IsRefused, MayOpen};
+ghost use Rattle.root_ledgers.specs.Settling.{OnFiles};
 ghost use Rattle.account_ledger.specs.States.{IsOpened, standing_at, usage_at};
-ghost use Rattle.account_ledger.specs.declared.book.Standing.TheVariants.{Settled};
+ghost use Rattle.root_ledgers.specs.declared.book.Standing.TheVariants.{Settled};
 
-use crate::book::{Book, Standing};
 use crate::counts::Counts;
 use crate::fault::{check_reply, step_error};
-use crate::open::{OpenError, OpenFault, admit_files, doubtful};
+use crate::opening::OpenFault;
 use crate::rows::{are_limits, rows_of, totals_of};
-use crate::scan::MOST;
-use crate::settle::{settle, settle_governing};
 use account_core::{Call, Entry, Reply, RootRow, RootRows, StepError};
+use account_opening::{OpenError, admit_files};
 use admission::{Verdict, admit};
 use keeper::Keeper;
 use quota_roots::Setup;
 use quota_units::{Limits, Totals};
+use root_ledgers::{Book, MOST, Standing, books_in_doubt, settle, settle_governing};
 use std::alloc::{AllocError, Global};
 use std::marker::Model;
 use std::snapshot::Snapshot;
@@ -51,7 +50,7 @@ pub struct AccountState<K: Keeper> {
 impl<K: Keeper> Model for AccountState<K> {
     ghost use Rattle.std.specs.Prelude.{vec_capacity};
     ghost use Rattle.account_ledger.specs.States.{State};
-    ghost use Rattle.account_ledger.specs.Settling.{standings_of, lengths_of};
+    ghost use Rattle.root_ledgers.specs.Settling.{standings_of, lengths_of};
     ghost use Rattle.account_ledger.specs.Opening.{opening_of};
     ghost use Rattle.account_ledger.specs.Order.{InOrder};
 
@@ -100,7 +99,7 @@ impl<K: Keeper> AccountState<K> {
     {
         let mut keeper = keeper;
         let opened = Snapshot::of(&keeper);
-        let books = match doubtful(alloc, setup.roots.count()) {
+        let books = match books_in_doubt(alloc, setup.roots.count()) {
             Ok(books) => books,
             Err(_) => {
                 return Err(OpenFault {

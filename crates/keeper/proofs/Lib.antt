@@ -3,3 +3,4 @@ pub mod LedgerLemmas
 pub mod PlaceLemmas
 pub mod PlanLemmas
 pub mod RowLemmas
+pub mod Changing

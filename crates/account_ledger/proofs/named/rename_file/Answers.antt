@@ -3,7 +3,7 @@ use Rattle.std.specs.Prelude.{bytes_eq}
 use Rattle.std.proofs.lemmas.Slice.Eq.{bytes_eq-Decides}
 use Rattle.keeper.specs.Files.{Files}
 use Rattle.keeper.specs.Calls.{Told}
-use Rattle.account_ledger.proofs.Changing.{changes_same}
+use Rattle.keeper.proofs.Changing.{changes_same}
 use Rattle.account_ledger.proofs.Found.{renamed_same}
 use Rattle.account_ledger.proofs.named.rename_file.Goals as goal
 

@@ -1,6 +1,6 @@
 use Rattle.std.proofs.Common.{◌≡◌, take}
 use Rattle.std.specs.List.{All}
-use Rattle.account_ledger.specs.Scans.{AreSmall}
+use Rattle.root_ledgers.specs.Scans.{AreSmall}
 use Rattle.account_ledger.specs.Rows.{totals_of}
 use Rattle.account_ledger.proofs.rows.totals_of.Given as goal
 

@@ -1,6 +1,6 @@
 use Rattle.std.proofs.Common.{◌≡◌, ℕ, true, false, List, sym, subst}
 use Rattle.std.specs.Prelude.{OnOk, IfOk}
-use Rattle.account_ledger.specs.declared.book.Standing.TheVariants.{Settled}
+use Rattle.root_ledgers.specs.declared.book.Standing.TheVariants.{Settled}
 use Rattle.account_ledger.specs.States.{standing_at}
 use Rattle.quota_roots.specs.RootLists.{place_of}
 use Rattle.account_core.specs.declared.calls.Call.{Call}

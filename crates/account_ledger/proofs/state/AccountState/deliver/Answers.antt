@@ -3,7 +3,7 @@ use Rattle.quota_roots.specs.Governing.{governs_at}
 use Rattle.admission.specs.declared.verdict.Verdict.{Verdict}
 use Rattle.account_core.specs.Machine.{has_mailbox, over_in}
 use Rattle.account_ledger.specs.Rows.{IsVerdict}
-use Rattle.account_ledger.specs.declared.book.Standing.TheVariants.{Settled}
+use Rattle.root_ledgers.specs.declared.book.Standing.TheVariants.{Settled}
 use Rattle.account_ledger.specs.States.{standing_at}
 use Rattle.account_ledger.specs.Serving.{OfAccount, SettlesSome}
 use Rattle.account_ledger.proofs.Delivering.{fits_here, over_leaves, over_replied}

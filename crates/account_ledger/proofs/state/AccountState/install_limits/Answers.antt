@@ -1,7 +1,7 @@
 use Rattle.std.proofs.Common.{ℕ, List, ◌<◌, ◌≡◌, ◌∙◌, length, Some, refl, sym, ap, subst, arith, rules}
 use Rattle.quota_roots.specs.RootLists.{place_of}
-use Rattle.account_ledger.specs.declared.book.Standing.TheVariants.{Settled}
-use Rattle.account_ledger.specs.declared.book.Book.{Book}
+use Rattle.root_ledgers.specs.declared.book.Standing.TheVariants.{Settled}
+use Rattle.root_ledgers.specs.declared.book.Book.{Book}
 use Rattle.account_ledger.specs.States.{State, standing_at}
 use Rattle.account_ledger.proofs.Limiting.{order_unlimited, order_relimited, limits_replied, standings_stay}
 use Rattle.account_ledger.proofs.Stating.{standing_of, read_totals}

@@ -17,7 +17,7 @@ use Rattle.account_ledger.specs.NamedFiles.{IsThere}
 use Rattle.account_ledger.specs.Rows.{IsVerdict}
 use Rattle.account_ledger.specs.Serving.{OfAccount, StayCalm, WritesFor}
 use Rattle.account_ledger.specs.States.{State, account_of, standing_at}
-use Rattle.account_ledger.specs.declared.book.Standing.TheVariants.{Settled}
+use Rattle.root_ledgers.specs.declared.book.Standing.TheVariants.{Settled}
 use Rattle.account_ledger.proofs.Moving.{nothing_gained, reply_missing, reply_same, reply_over, same_box_rows}
 use Rattle.account_ledger.proofs.Replying.{of_weaker, of_both}
 use Rattle.account_ledger.proofs.Served.{account_moved, account_back, noted, noted_on, settles_same, settles_still, stay_same, serves_after, serves_then}

@@ -3,7 +3,7 @@ use Rattle.std.proofs.lemmas.Result.{IfOk-weaker}
 use Rattle.quota_roots.specs.Governing.{governs_at}
 use Rattle.account_core.specs.declared.calls.RootRow.{RootRow}
 use Rattle.account_core.specs.Machine.{governing_rows}
-use Rattle.account_ledger.specs.declared.book.Standing.TheVariants.{Settled}
+use Rattle.root_ledgers.specs.declared.book.Standing.TheVariants.{Settled}
 use Rattle.account_ledger.specs.Rows.{kept_rows}
 use Rattle.account_ledger.specs.States.{State, standing_at}
 use Rattle.account_ledger.proofs.Replying.{of_weaker}

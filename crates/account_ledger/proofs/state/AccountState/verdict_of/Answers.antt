@@ -2,7 +2,7 @@ use Rattle.std.proofs.Common.{◌≡◌, ◌∙◌, ℕ, true, ap, sym, subst, r
 use Rattle.quota_roots.specs.Governing.{governs_at, governing}
 use Rattle.admission.specs.Fitting.{first_over}
 use Rattle.account_core.specs.Machine.{over_in}
-use Rattle.account_ledger.specs.declared.book.Standing.TheVariants.{Settled}
+use Rattle.root_ledgers.specs.declared.book.Standing.TheVariants.{Settled}
 use Rattle.account_ledger.specs.Rows.{IsVerdict, totals_of}
 use Rattle.account_ledger.specs.States.{State, standing_at}
 use Rattle.std.specs.List.{All}

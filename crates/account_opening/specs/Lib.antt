@@ -1,0 +1,3 @@
+pub mod Bases
+pub mod Limits
+pub mod Admitting

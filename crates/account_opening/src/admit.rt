@@ -1,0 +1,64 @@
+// Whether an account may be opened, and with which limits.
+ghost use Rattle.std.specs.Prelude.{◌≡◌, ◌≤◌, length, IfOk};
+ghost use Rattle.keeper.specs.Causes.{HasCause};
+ghost use Rattle.keeper.specs.Calls.{Changes};
+ghost use Rattle.account_opening.specs.Admitting.{Admits, IsJudged};
+
+use crate::OpenError;
+use crate::findings::{Findings, find};
+use crate::limits::read_limits;
+use keeper::Keeper;
+use quota_roots::Setup;
+use quota_units::Limits;
+use std::alloc::Global;
+
+/// The most messages of an account that is opened.
+const MAX_MESSAGES: u64 = 1048576;
+
+/// What stands against these findings.
+fn judge(found: Findings) -> Result<(), OpenError>
+    ensures { IsJudged found result }
+{
+    let Findings {
+        files,
+        double,
+        used,
+    } = found;
+    if files > MAX_MESSAGES {
+        return Err(OpenError::TooManyMessages { found: files });
+    }
+    if let Some(name) = double {
+        return Err(OpenError::DoubleName { name });
+    }
+    if let Some(name) = used {
+        return Err(OpenError::EpochUsed { name });
+    }
+    Ok(())
+}
+
+/// The limits of the account's roots, where nothing stands against its files: those that a root's ledger defines in its first
+/// line, or else those of the setup. No file is changed.
+///
+/// All mailboxes are listed, then the files are looked at, and then the ledgers are read.
+///
+/// # Errors
+///
+/// `Store` where the store failed; `TooManyMessages` above 1048576 files in the mailboxes; `DoubleName` at the first file
+/// whose base another file of its mailbox has; `EpochUsed` at the first whose base begins with the epoch and a dot and ends
+/// with `.quotad`; and `NoMemory`.
+pub fn admit_files<K: Keeper>(
+    alloc: Global,
+    keeper: &mut K,
+    setup: &Setup,
+    epoch: u64,
+) -> Result<Vec<Limits>, OpenError>
+    requires { length setup.now.limits ≤ 4 }
+    ensures files { Changes (Admits setup.now epoch result) (K.told keeper.old) (K.told keeper.new) }
+    ensures count { IfOk result (λ limits. length limits.items ≡ length setup.now.limits) }
+    ensures cause { HasCause (result ≡ Err OpenError.Store) (K.faults keeper.old) (K.faults keeper.new) }
+    ensures appends { K.append_faults keeper.new ≡ K.append_faults keeper.old }
+{
+    let found = find(alloc, keeper, setup.mailboxes.as_slice(), epoch)?;
+    judge(found)?;
+    Ok(read_limits(alloc, keeper, setup.limits.as_slice())?)
+}

@@ -1,0 +1,100 @@
+// The bases of a mailbox's files: one that stands twice, and one that a delivery could have.
+ghost use Rattle.std.specs.Prelude.{◌≡◌, ◌++◌, ℕ, List, Some, is_some, unwrap_or, nat_lt, bytes_eq, codes, decimal, if◌then◌else◌, IfOk, MatchOption};
+ghost use Rattle.std.specs.Option.{option_map};
+ghost use Rattle.account_opening.specs.Bases.{AreApart, AreNoted, base_in, double_in, noted, shown, used_in};
+
+use keeper::FileRow;
+use message_names::parse_name;
+use quota_units::Name;
+use std::alloc::{AllocError, Global};
+use std::collections::BTreeMap;
+
+fn base_in(file: &FileRow) -> &[u8]
+    ensures { result.now ≡ base_in file.now }
+{
+    parse_name(file.name.as_slice()).base
+}
+
+/// Notes one more file of this base, up to the second, and tells whether one was noted before.
+fn note<'a>(notes: &mut BTreeMap<&'a [u8], u8>, base: &'a [u8]) -> Result<bool, AllocError>
+    ensures again { IfOk result (λ again. again ≡ is_some (noted notes.old base.now)) }
+    ensures notes { IfOk result (λ again. (other : List ℕ) → noted notes.new other ≡ (if bytes_eq base.now other then Some (if again then 2 else 1) else noted notes.old other)) }
+{
+    if notes.insert(base, 1)?.is_none() {
+        return Ok(false);
+    }
+    notes.insert(base, 2)?;
+    Ok(true)
+}
+
+/// Notes of each base whether it stands once, or twice and more, in the files; `None` where none stands twice.
+fn repeats_in<'a>(
+    alloc: Global,
+    files: &'a [FileRow],
+) -> Result<Option<BTreeMap<&'a [u8], u8>>, AllocError>
+    ensures { IfOk result (λ repeats. MatchOption repeats (AreApart files.now) (λ notes. AreNoted notes files.now)) }
+{
+    let mut notes = BTreeMap::new(alloc);
+    let mut repeats = false;
+    for file in files {
+        let again = note(&mut notes, base_in(file))?;
+        repeats = repeats || again;
+    }
+    if repeats { Ok(Some(notes)) } else { Ok(None) }
+}
+
+/// The first base that another of the files has too.
+pub(crate) fn double_in(alloc: Global, files: &[FileRow]) -> Result<Option<Name>, AllocError>
+    ensures { IfOk result (λ found. found ≡ option_map shown (double_in files.now)) }
+{
+    let Some(notes) = repeats_in(alloc, files)? else {
+        return Ok(None);
+    };
+    for file in files {
+        let base = base_in(file);
+        if is_repeated(&notes, base) {
+            return Ok(Some(show(alloc, base)?));
+        }
+    }
+    Ok(None)
+}
+
+/// Whether a base was noted twice.
+fn is_repeated(notes: &BTreeMap<&[u8], u8>, base: &[u8]) -> bool
+    ensures { result ≡ nat_lt 1 (unwrap_or (noted notes.now base.now) 0) }
+{
+    match notes.get(base) {
+        None => false,
+        Some(times) => *times > 1,
+    }
+}
+
+/// The first base that begins with the epoch and a dot, as the prefix has them, and ends with `.quotad`.
+pub(crate) fn used_in(
+    alloc: Global,
+    epoch: u64,
+    prefix: &[u8],
+    files: &[FileRow],
+) -> Result<Option<Name>, AllocError>
+    requires { prefix.now ≡ decimal epoch ++ codes "." }
+    ensures { IfOk result (λ found. found ≡ option_map shown (used_in epoch files.now)) }
+{
+    for file in files {
+        let base = base_in(file);
+        if base.starts_with(prefix) && base.ends_with(b".quotad") {
+            return Ok(Some(show(alloc, base)?));
+        }
+    }
+    Ok(None)
+}
+
+/// A base as a refusal names it.
+fn show(alloc: Global, base: &[u8]) -> Result<Name, AllocError>
+    ensures { IfOk result (λ name. name ≡ shown base.now) }
+{
+    let end = base.len().min(255);
+    match Name::of(alloc, &base[..end]) {
+        Ok(name) => Ok(name),
+        Err(_) => Err(AllocError),
+    }
+}

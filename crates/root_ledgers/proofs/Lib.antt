@@ -1,0 +1,6 @@
+pub mod ScanLemmas
+pub mod SettleLemmas
+pub mod LineLemmas
+pub mod Sums
+pub mod Kept
+pub mod Posting

@@ -1,0 +1,20 @@
+-- Sums that are cut.
+use Rattle.std.proofs.Common.{◌≡◌, ℕ, ◌+◌, ◌<◌, List, length, take, get_or, sum_by, arith, ap, ◌∙◌}
+use Rattle.std.proofs.lemmas.List.{take_more}
+use Rattle.std.proofs.lemmas.List.Sums.{sum_by_push}
+use Rattle.quota_units.specs.declared.totals.Totals.{Totals}
+use Rattle.root_ledgers.specs.Scans.{cut}
+
+pub same_totals : {a b c d : ℕ} → a ≡ c → b ≡ d → (let x : Totals = record { octets = a; count = b } in x) ≡ record { octets = c; count = d }
+same_totals {b = b} {c = c} e f = ap (λ n. let x : Totals = record { octets = n; count = b } in x) e ∙ ap (λ n. let x : Totals = record { octets = c; count = n } in x) f
+
+-- a cut that is cut again with more
+pub cut_more : (a b : ℕ) → cut (cut a + b) ≡ cut (a + b)
+cut_more a b = omega arith
+
+pub cut_both : (a b : ℕ) → cut (cut a + cut b) ≡ cut (a + b)
+cut_both a b = omega arith
+
+module _ {X : Type 0} (weight : X → ℕ) where
+  pub sum_more : (xs : List X) (i : ℕ) (d : X) → i < length xs → sum_by weight (take (i + 1) xs) ≡ sum_by weight (take i xs) + weight (get_or xs i d)
+  sum_more xs i d inside = ap (sum_by weight) (take_more xs i d inside) ∙ sum_by_push weight (take i xs) (get_or xs i d)

@@ -1,0 +1,100 @@
+-- Roots are settled one after another.
+use Rattle.std.proofs.Common.{◌≡◌, ℕ, ◌<◌, ◌+◌, Bool, true, false, nat_eq, List, length, Option, Some, refl, sym, ap, ◌∙◌, inl, inr, subst, eqb-true, arith}
+use Rattle.std.proofs.lemmas.Bool.{false≢true, cases_lt}
+use Rattle.std.proofs.lemmas.Option.{slice_get_past}
+use Rattle.std.specs.Option.{option_map_or}
+use Rattle.quota_units.specs.Limiting.{LimitNumbers}
+use Rattle.quota_units.specs.declared.totals.Totals.{Totals}
+use Rattle.quota_roots.specs.declared.root.RootSpec.{RootSpec}
+use Rattle.quota_roots.specs.Governing.{governs, governs_at}
+use Rattle.keeper.specs.Files.{Files}
+use Rattle.keeper.specs.Calls.{Told, Changes}
+use Rattle.admission.specs.Fitting.{limits_at}
+use Rattle.root_ledgers.specs.declared.book.Book.{Book}
+use Rattle.root_ledgers.specs.declared.book.Standing.{Standing}
+use Rattle.root_ledgers.specs.declared.book.Standing.TheVariants.{Settled, Doubt}
+use Rattle.root_ledgers.specs.Scans.{scan}
+use Rattle.root_ledgers.specs.Ledgers.{folded}
+use Rattle.root_ledgers.specs.Settling.{OnFiles, book_at, folded_book, SettlesOrStays, Settling, Marks, MarksOne}
+use Rattle.keeper.proofs.Changing.{changes_then, changes_same}
+
+one_then : (may may1 : Bool) → (may1 ≡ true → may ≡ true) → (limits : LimitNumbers) (totals totals1 : Totals) → totals1 ≡ totals → (book book1 book2 : Book) (ledger ledger1 ledger2 : Option (List ℕ))
+    → SettlesOrStays may limits totals book book1 ledger ledger1 → SettlesOrStays may1 limits totals1 book1 book2 ledger1 ledger2
+    → SettlesOrStays may limits totals book book2 ledger ledger2
+one_then may may1 wider limits totals totals1 same book book1 book2 ledger ledger1 ledger2 (inl s) (inl t) =
+    inl (record { book_is = t.book_is ∙ s.book_is; ledger_is = t.ledger_is ∙ s.ledger_is })
+one_then may may1 wider limits totals totals1 same book book1 book2 ledger ledger1 ledger2 (inl s) (inr (is, t)) =
+    inr (
+      wider is,
+      record {
+        doubt = sym (ap (λ (b : Book). b.standing) s.book_is) ∙ t.doubt;
+        book_is = t.book_is ∙ ap (folded_book limits) same;
+        ledger_is = t.ledger_is ∙ ap (λ x. Some (folded limits x)) same;
+        short = subst (λ x. length (folded limits x) < 5120) same t.short;
+      },
+    )
+one_then may may1 wider limits totals totals1 same book book1 book2 ledger ledger1 ledger2 (inr (is, s)) (inl t) =
+    inr (is, record { doubt = s.doubt; book_is = t.book_is ∙ s.book_is; ledger_is = t.ledger_is ∙ s.ledger_is; short = s.short })
+one_then may may1 wider limits totals totals1 same book book1 book2 ledger ledger1 ledger2 (inr (is, s)) (inr (also, t)) =
+    let e : Settled ≡ Doubt = sym (ap (λ (b : Book). b.standing) s.book_is) ∙ t.doubt in absurd (cc)
+
+mark_then : (may may1 : Bool) → (may1 ≡ true → may ≡ true) → (a b c : Standing) → MarksOne may a b → MarksOne may1 b c → MarksOne may a c
+mark_then may may1 wider a b c (inl s) (inl t) = inl (t ∙ s)
+mark_then may may1 wider a b c (inl s) (inr (is, doubt, settled)) = inr (wider is, sym s ∙ doubt, settled)
+mark_then may may1 wider a b c (inr (is, doubt, settled)) (inl t) = inr (is, doubt, t ∙ settled)
+mark_then may may1 wider a b c (inr (is, doubt, settled)) (inr (also, doubt1, settled1)) = absurd (let e : Settled ≡ Doubt = sym settled ∙ doubt1 in cc)
+
+module _ (may may1 : ℕ → Bool) (wider : (r : ℕ) → may1 r ≡ true → may r ≡ true) where
+  pub marks_then : (a b c : List Book) → Marks may a b → Marks may1 b c → Marks may a c
+  marks_then a b c s t = record { count = t.count ∙ s.count; each = λ r. mark_then (may r) (may1 r) (wider r) _ _ _ (s.each r) (t.each r) }
+
+  module _ (roots : List RootSpec) (limits : List LimitNumbers) (mailboxes : List (List ℕ)) where
+    pub settling_then : (a b c : List Book) (f g h : Files) → Settling may roots limits mailboxes a b f g → Settling may1 roots limits mailboxes b c g h → Settling may roots limits mailboxes a c f h
+    settling_then a b c f g h s t = record {
+      rows = t.rows ∙ s.rows;
+      each = λ r. one_then (may r) (may1 r) (wider r) (limits_at limits r) _ _ (ap (scan roots r mailboxes) s.rows) _ _ _ _ _ _ (s.each r) (t.each r);
+    }
+
+    pub settles_then : (a b c : List Book) (t u v : Option Told) → Changes (OnFiles (Settling may roots limits mailboxes a b)) t u → Changes (OnFiles (Settling may1 roots limits mailboxes b c)) u v
+        → Changes (OnFiles (Settling may roots limits mailboxes a c)) t v
+    settles_then a b c t u v =
+        changes_then (OnFiles (Settling may roots limits mailboxes a b)) (OnFiles (Settling may1 roots limits mailboxes b c)) (OnFiles (Settling may roots limits mailboxes a c))
+        (λ x y z. settling_then a b c x.files y.files z.files) t u v
+
+pub settles_none : (may : ℕ → Bool) (roots : List RootSpec) (limits : List LimitNumbers) (mailboxes : List (List ℕ)) (books : List Book) (t : Option Told)
+    → Changes (OnFiles (Settling may roots limits mailboxes books books)) t t
+settles_none may roots limits mailboxes books t =
+    changes_same (OnFiles (Settling may roots limits mailboxes books books)) (λ x. record { rows = refl; each = λ r. inl (record { book_is = refl; ledger_is = refl }) }) t
+
+pub marks_none : (may : ℕ → Bool) (books : List Book) → Marks may books books
+marks_none may books = record { count = refl; each = λ r. inl refl }
+
+pub governed_inside : (roots : List RootSpec) (mailbox : List ℕ) (root : ℕ) → governs_at roots root mailbox ≡ true → root < length roots
+governed_inside roots mailbox root governed = elim (cases_lt root (length roots)) [
+  | inl inside ↦ inside
+  | inr past ↦ absurd (false≢true (sym (ap (λ o. option_map_or (λ spec. governs spec mailbox) o false) (slice_get_past roots root past)) ∙ governed))
+]
+
+pub only_one : (may : ℕ → Bool) (root : ℕ) → may root ≡ true → (r : ℕ) → nat_eq root r ≡ true → may r ≡ true
+only_one may root is r same = subst (λ k. may k ≡ true) (eqb-true root r same) is
+
+pub settled_stays : (may : Bool) (standing standing' : Standing) → MarksOne may standing standing' → standing ≡ Settled → standing' ≡ Settled
+settled_stays may standing standing' (inl same) settled = same ∙ settled
+settled_stays may standing standing' (inr (is, doubt, now)) settled = now
+
+module _ (may : ℕ → Bool) (n : ℕ) where
+  -- each root below n that may be is settled
+  abbrev pub SettledBelow : ℕ → List Book → Type 0
+  SettledBelow m books = (root : ℕ) → root < m → may root ≡ true → (book_at books root).standing ≡ Settled
+
+  pub settled_more : (a b : List Book) → SettledBelow n a → Marks (nat_eq n) a b → (book_at b n).standing ≡ Settled → SettledBelow (n + 1) b
+  settled_more a b before marks here root below is = elim (cases_lt root n) [
+    | inl earlier ↦ settled_stays _ _ _ (marks.each root) (before root earlier is)
+    | inr not_earlier ↦ let e : n ≡ root = omega arith in subst (λ k. (book_at b k).standing ≡ Settled) e here
+  ]
+
+  pub settled_past : (a : List Book) → SettledBelow n a → may n ≡ false → SettledBelow (n + 1) a
+  settled_past a before is_not root below is = elim (cases_lt root n) [
+    | inl earlier ↦ before root earlier is
+    | inr not_earlier ↦ let e : n ≡ root = omega arith in absurd (false≢true (sym is_not ∙ ap may e ∙ is))
+  ]

@@ -1,0 +1,5 @@
+pub mod Scans
+pub mod Scanning
+pub mod Ledgers
+pub mod Settling
+pub mod Lines

@@ -1,0 +1,75 @@
+// What a message that goes from one mailbox to another does to the usage of quota roots.
+ghost use Rattle.std.specs.Prelude.{◌≡◌, ◌<◌, length};
+ghost use Rattle.std.specs.Option.{option_map};
+ghost use Rattle.root_ledgers.specs.Lines.{change_at, governs_in, line_by, totals_by};
+ghost use Rattle.root_ledgers.specs.Scans.{AreSmall};
+
+use crate::scan::cut_sum;
+use maildirsize::{Text, print_line};
+use quota_roots::Roots;
+use quota_units::Totals;
+
+/// What a message that comes to or goes from the mailboxes of a quota root does to the root's usage.
+#[derive(Clone, Copy, Debug, PartialEq, Eq)]
+pub enum Change {
+    /// Its octets and one message more.
+    Comes,
+    /// Its octets and one message less.
+    Goes,
+}
+
+/// Whether the root governs the mailbox, where there is one.
+fn governs_in(roots: &Roots, root: u32, mailbox: Option<&[u8]>) -> bool
+    requires { root < length roots.now }
+    ensures { result ≡ governs_in roots.now root (option_map (λ m. m.now) mailbox.entry) }
+{
+    match mailbox {
+        None => false,
+        Some(mailbox) => roots.governs(root, mailbox),
+    }
+}
+
+/// What a message that goes from one mailbox to another does to the usage of the root; one that is delivered comes from none,
+/// and one that is removed goes to none.
+pub(crate) fn change_at(
+    roots: &Roots,
+    root: u32,
+    from: Option<&[u8]>,
+    to: Option<&[u8]>,
+) -> Option<Change>
+    requires { root < length roots.now }
+    ensures { result ≡ change_at roots.now (option_map (λ m. m.now) from.entry) (option_map (λ m. m.now) to.entry) root }
+{
+    match (governs_in(roots, root, from), governs_in(roots, root, to)) {
+        (false, true) => Some(Change::Comes),
+        (true, false) => Some(Change::Goes),
+        _ => None,
+    }
+}
+
+/// Sets the text to the line of a message of so many octets.
+pub(crate) fn print_change(change: Change, octets: u64, line: &mut Text)
+    requires { octets < 1000000000000000000 }
+    ensures { line.new ≡ line_by change octets }
+{
+    match change {
+        Change::Comes => print_line(octets as i64, 1, line),
+        Change::Goes => print_line(-(octets as i64), -1, line),
+    }
+}
+
+/// The usage then.
+pub(crate) fn totals_by(change: Change, octets: u64, totals: Totals) -> Totals
+    requires octets { octets < 1000000000000000000 }
+    requires totals { AreSmall totals }
+    ensures value { result ≡ totals_by change octets totals }
+    ensures small { AreSmall result }
+{
+    match change {
+        Change::Comes => cut_sum(totals, Totals { octets, count: 1 }),
+        Change::Goes => Totals {
+            octets: totals.octets.saturating_sub(octets),
+            count: totals.count.saturating_sub(1),
+        },
+    }
+}

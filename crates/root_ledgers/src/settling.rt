@@ -1,0 +1,129 @@
+// Roots in doubt are settled.
+ghost use Rattle.std.specs.Prelude.{◌≡◌, ◌<◌, ℕ, true, length, nat_eq, OnOk, IsErrOf, All};
+ghost use Rattle.keeper.specs.Causes.{HasCause};
+ghost use Rattle.keeper.specs.Calls.{Changes};
+ghost use Rattle.quota_roots.specs.Governing.{gains_at, governs_at};
+ghost use Rattle.root_ledgers.specs.declared.book.Standing.TheVariants.{Settled};
+ghost use Rattle.root_ledgers.specs.Scans.{AreSmall};
+ghost use Rattle.root_ledgers.specs.Settling.{OnFiles, Settling, Marks, book_at};
+
+use crate::book::{Book, Standing};
+use crate::scan::scan_root;
+use keeper::{KeepError, Keeper};
+use maildirsize::{Text, print_folded};
+use quota_roots::{Roots, Setup};
+use quota_units::Limits;
+use std::alloc::Global;
+
+/// Settles a root that is in doubt: its mailboxes are listed, and the folded text of what their files add up to is installed.
+///
+/// # Errors
+///
+/// `Failed` where the store failed, and `NoMemory`. The root is in doubt then.
+pub fn settle<K: Keeper>(
+    alloc: Global,
+    keeper: &mut K,
+    setup: &Setup,
+    limits: &[Limits],
+    books: &mut Vec<Book>,
+    root: u32,
+) -> Result<(), KeepError>
+    requires root { root < length setup.now.roots }
+    requires limits { length limits.now ≡ length setup.now.roots }
+    requires books { length books.old.items ≡ length setup.now.roots }
+    requires small { All (λ book. AreSmall book.totals) books.old.items }
+    ensures files { Changes (OnFiles (Settling (nat_eq root) setup.now.roots limits.now setup.now.mailboxes books.old.items books.new.items)) (K.told keeper.old) (K.told keeper.new) }
+    ensures marks { Marks (nat_eq root) books.old.items books.new.items }
+    ensures small { All (λ book. AreSmall book.totals) books.new.items }
+    ensures settled { OnOk result ((book_at books.new.items root).standing ≡ Settled) }
+    ensures cause { HasCause (IsErrOf result KeepError.Failed) (K.faults keeper.old) (K.faults keeper.new) }
+    ensures appends { K.append_faults keeper.new ≡ K.append_faults keeper.old }
+{
+    if let Standing::Settled = books[root as usize].standing {
+        return Ok(());
+    }
+    let totals = scan_root(alloc, keeper, setup, root)?;
+    // The account has at most four roots.
+    let _count = setup.roots.count();
+    let mut text = Text::new();
+    print_folded(&limits[root as usize], &totals, &mut text);
+    let length = text.as_slice().len();
+    keeper.install_ledger(root, text.as_slice())?;
+    books[root as usize] = Book {
+        totals,
+        standing: Standing::Settled,
+        length,
+    };
+    Ok(())
+}
+
+/// Settles each root in doubt that governs the mailbox.
+///
+/// # Errors
+///
+/// `Failed` where the store failed, and `NoMemory`. Some of the roots may be settled then.
+pub fn settle_governing<K: Keeper>(
+    alloc: Global,
+    keeper: &mut K,
+    setup: &Setup,
+    limits: &[Limits],
+    books: &mut Vec<Book>,
+    mailbox: &[u8],
+) -> Result<(), KeepError>
+    requires limits { length limits.now ≡ length setup.now.roots }
+    requires books { length books.old.items ≡ length setup.now.roots }
+    requires small { All (λ book. AreSmall book.totals) books.old.items }
+    ensures files { Changes (OnFiles (Settling (λ root. governs_at setup.now.roots root mailbox.now) setup.now.roots limits.now setup.now.mailboxes books.old.items books.new.items)) (K.told keeper.old) (K.told keeper.new) }
+    ensures marks { Marks (λ root. governs_at setup.now.roots root mailbox.now) books.old.items books.new.items }
+    ensures small { All (λ book. AreSmall book.totals) books.new.items }
+    ensures settled { OnOk result ((root : ℕ) → governs_at setup.now.roots root mailbox.now ≡ true → (book_at books.new.items root).standing ≡ Settled) }
+    ensures cause { HasCause (IsErrOf result KeepError.Failed) (K.faults keeper.old) (K.faults keeper.new) }
+    ensures appends { K.append_faults keeper.new ≡ K.append_faults keeper.old }
+{
+    for root in 0..setup.roots.count() {
+        if setup.roots.governs(root, mailbox) {
+            settle(alloc, keeper, setup, limits, books, root)?;
+        }
+    }
+    Ok(())
+}
+
+/// Settles each root in doubt that governs the mailbox `to` and not the mailbox `from`.
+///
+/// # Errors
+///
+/// `Failed` where the store failed, and `NoMemory`. Some of the roots may be settled then.
+pub fn settle_gaining<K: Keeper>(
+    alloc: Global,
+    keeper: &mut K,
+    setup: &Setup,
+    limits: &[Limits],
+    books: &mut Vec<Book>,
+    from: &[u8],
+    to: &[u8],
+) -> Result<(), KeepError>
+    requires limits { length limits.now ≡ length setup.now.roots }
+    requires books { length books.old.items ≡ length setup.now.roots }
+    requires small { All (λ book. AreSmall book.totals) books.old.items }
+    ensures files { Changes (OnFiles (Settling (λ root. gains_at setup.now.roots root from.now to.now) setup.now.roots limits.now setup.now.mailboxes books.old.items books.new.items)) (K.told keeper.old) (K.told keeper.new) }
+    ensures marks { Marks (λ root. gains_at setup.now.roots root from.now to.now) books.old.items books.new.items }
+    ensures small { All (λ book. AreSmall book.totals) books.new.items }
+    ensures settled { OnOk result ((root : ℕ) → gains_at setup.now.roots root from.now to.now ≡ true → (book_at books.new.items root).standing ≡ Settled) }
+    ensures cause { HasCause (IsErrOf result KeepError.Failed) (K.faults keeper.old) (K.faults keeper.new) }
+    ensures appends { K.append_faults keeper.new ≡ K.append_faults keeper.old }
+{
+    for root in 0..setup.roots.count() {
+        if gains(&setup.roots, root, from, to) {
+            settle(alloc, keeper, setup, limits, books, root)?;
+        }
+    }
+    Ok(())
+}
+
+/// Whether a message that moves from one mailbox to another comes under the root.
+fn gains(roots: &Roots, root: u32, from: &[u8], to: &[u8]) -> bool
+    requires { root < length roots.now }
+    ensures { result ≡ gains_at roots.now root from.now to.now }
+{
+    roots.governs(root, to) && !roots.governs(root, from)
+}

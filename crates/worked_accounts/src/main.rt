@@ -1,0 +1,89 @@
+//! Accounts over keepers in memory, worked line by line: each line of the input is done, and printed with what came of it.
+#![tactic(auto)]
+
+mod account;
+mod lines;
+mod store;
+mod trouble;
+
+use account::{close, serve_line};
+use account_ledger::AccountState;
+use keeper::MemKeeper;
+use lines::{text_of, words_of};
+use std::alloc::Global;
+use std::io::{self, Read};
+use store::Store;
+use trouble::Trouble;
+
+/// What stands between two lines: a store that is described, or the account that was opened over it.
+#[derive(Drop)]
+struct Workbench {
+    store: Store,
+    account: Option<AccountState<MemKeeper>>,
+}
+
+impl Workbench {
+    fn new(alloc: Global) -> Workbench {
+        Workbench {
+            store: Store::new(alloc),
+            account: None,
+        }
+    }
+
+    /// Does a line, and says what came of it.
+    fn take(&mut self, alloc: Global, words: &[&[u8]]) -> Result<String, Trouble> {
+        match words {
+            [b"store"] => {
+                *self = Workbench::new(alloc);
+                text_of(alloc, "empty")
+            }
+            [b"open"] => {
+                let store = std::mem::replace(&mut self.store, Store::new(alloc));
+                self.account = Some(store.open(alloc)?);
+                text_of(alloc, "opened")
+            }
+            [b"close"] => match self.account.take() {
+                Some(account) => close(alloc, account),
+                None => Err(Trouble::NoAccount),
+            },
+            _ => match &mut self.account {
+                Some(account) => serve_line(alloc, account, words),
+                None => self.store.take(alloc, words),
+            },
+        }
+    }
+}
+
+/// The line, and what came of it. A line that begins with `#`, and an empty one, stands for itself.
+fn worked(alloc: Global, bench: &mut Workbench, line: &str) -> Result<String, Trouble> {
+    if line.is_empty() || line.starts_with("#") {
+        return text_of(alloc, line);
+    }
+    let words = words_of(alloc, line.as_bytes())?;
+    match bench.take(alloc, words.as_slice()) {
+        Ok(answer) => Ok(format!(in alloc; "{line} -> {answer}")?),
+        Err(Trouble::NoMemory) => Err(Trouble::NoMemory),
+        Err(trouble) => Ok(format!(in alloc; "{line} -> {trouble}")?),
+    }
+}
+
+fn main(rt: HostRuntime) -> io::Result<()> {
+    let alloc = rt.alloc();
+    let mut input = Vec::new(alloc);
+    rt.stdin().read_to_end(&mut input)?;
+    let lines = match input.as_slice() {
+        [lines @ .., b'\n'] => lines,
+        lines => lines,
+    };
+    let mut bench = Workbench::new(alloc);
+    for line in lines.split(|b| *b == b'\n') {
+        let Ok(line) = str::from_utf8(line) else {
+            return println!(rt; "a line that is no text");
+        };
+        match worked(alloc, &mut bench, line) {
+            Ok(text) => println!(rt; "{text}")?,
+            Err(trouble) => return println!(rt; "{trouble}"),
+        }
+    }
+    Ok(())
+}
