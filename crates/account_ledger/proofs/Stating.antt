@@ -1,5 +1,5 @@
 -- From what is kept to what clauses see.
-use Rattle.std.proofs.Common.{◌≡◌, ◌⊎◌, ℕ, ◌<◌, ◌≤◌, Bool, true, not, List, length, get_or, Option, Some, None, refl, sym, ap, ◌∙◌, inl, inr, arith}
+use Rattle.std.proofs.Common.{◌≡◌, ◌⊎◌, ℕ, ◌<◌, ◌≤◌, Bool, true, List, length, get_or, filter, Option, Some, None, refl, sym, ap, ◌∙◌, inl, inr, subst, arith}
 use Rattle.std.specs.Prelude.{IfSome}
 use Rattle.std.specs.Option.{option_map}
 use Rattle.std.proofs.Math.ListN.{get_or-map}
@@ -16,7 +16,7 @@ use Rattle.account_ledger.specs.declared.counts.Counts.{Counts}
 use Rattle.root_ledgers.specs.declared.book.Book.{Book}
 use Rattle.root_ledgers.specs.declared.book.Standing.{Standing}
 use Rattle.root_ledgers.specs.declared.book.Standing.TheVariants.{Settled, Doubt}
-use Rattle.root_ledgers.specs.Settling.{OnFiles, no_book, book_at, standings_of, Settling, SettlesOrStays, Marks, MarksOne}
+use Rattle.root_ledgers.specs.Settling.{OnFiles, no_book, book_at, standings_of, Settling, SettlesOrStays, Marks, MarksOne, comes_under, coming}
 use Rattle.account_ledger.specs.Opening.{opening_of, opening_account}
 use Rattle.root_ledgers.specs.Scans.{scan}
 use Rattle.admission.specs.Fitting.{limits_at, first_over, totals_at}
@@ -25,14 +25,14 @@ use Rattle.account_ledger.specs.Order.{Holds, InOrder}
 use Rattle.root_ledgers.specs.Ledgers.{folded}
 use Rattle.account_ledger.specs.Serving.{SettlesLedgers, IsSettledNow, AreFolded}
 use Rattle.account_ledger.proofs.UsageLemmas.{scan_is_usage}
-use Rattle.std.proofs.lemmas.Bool.{cases_lt, and_parts}
+use Rattle.std.proofs.lemmas.Bool.{cases_lt}
 use Rattle.std.specs.List.{range_with_len}
-use Rattle.quota_roots.specs.Governing.{governs_at, governing, gains_at, gaining}
-use Rattle.account_core.specs.Machine.{governing_rows, usages, over_in, over_of}
+use Rattle.quota_roots.specs.Governing.{governs_at}
+use Rattle.account_core.specs.Machine.{governing_rows, usages, over_of}
 use Rattle.account_core.proofs.Admitting.{totals_at-usages}
 use Rattle.account_ledger.specs.Rows.{kept_row, kept_rows, totals_of}
 use Rattle.keeper.proofs.Changing.{changes_weaken}
-use Rattle.root_ledgers.proofs.SettleLemmas.{governed_inside}
+use Rattle.root_ledgers.proofs.SettleLemmas.{comes_inside, governed_inside}
 use Rattle.account_ledger.proofs.Replying.{no_root, row_at, map_where, governing_rows_are, first_over_where}
 
 pub standing_of : (books : List Book) (root : ℕ) → standing_at (standings_of books) root ≡ (book_at books root).standing
@@ -122,15 +122,6 @@ module _ (then now : Option Told) (faults_then faults : ℕ) (setup : Setup) (ep
       map_where (kept_row limits books) (row_at setup.roots account.limits account) (λ root. governs_at setup.roots root mailbox) (row_here account files holds) (range_with_len 0 (length setup.roots))
       ∙ sym (governing_rows_are setup.roots account mailbox (ap length holds.limits_are ∙ order.limits_each))) order
 
-  -- and so is the first root over
-  pub over_is : (octets : ℕ) → IfSome (option_map (λ opening. replay setup.roots opening history) (opening_of setup epoch then))
-      (λ account. first_over limits (totals_of books) (governing setup.roots mailbox) octets ≡ over_in setup.roots account mailbox octets)
-  over_is octets =
-      of_account then now faults_then faults setup epoch limits books counts history (λ account. first_over limits (totals_of books) (governing setup.roots mailbox) octets ≡ over_in setup.roots account mailbox octets)
-      (λ account files holds.
-      first_over_where (λ root. governs_at setup.roots root mailbox) (length setup.roots) limits (totals_of books) (usages setup.roots account) octets (λ root governed. totals_at_of books root ∙ totals_here account files holds root governed)
-      ∙ ap (λ ls. first_over ls (usages setup.roots account) (governing setup.roots mailbox) octets) (sym holds.limits_are)) order
-
 pub limits_each : (then now : Option Told) (faults_then faults : ℕ) (setup : Setup) (epoch : ℕ) (limits : List LimitNumbers) (books : List Book) (counts : Counts) (history : List Entry)
     → InOrder then now faults_then faults setup epoch limits books counts history
     → IfSome (option_map (λ opening. replay setup.roots opening history) (opening_of setup epoch then)) (λ account. length account.limits ≡ length setup.roots)
@@ -175,17 +166,23 @@ texts_settled then now now' faults_then faults setup epoch limits books books' c
         each_folded may setup limits books books' counts (length history) (replay setup.roots (opening_account setup epoch t.files) history) n.files n'.files held
         (omega (arith, order.within, order.sound.most_room)) order.limits_each (marks.count ∙ order.books_each) s
 
--- the first root over among the roots that a message comes under when it is moved
-pub over_gained : (then now : Option Told) (faults_then faults : ℕ) (setup : Setup) (epoch : ℕ) (limits : List LimitNumbers) (books : List Book) (counts : Counts) (history : List Entry) (from to : List ℕ)
+-- the numbers of the roots that a message comes under
+coming_are : (roots : List RootSpec) (from : Option (List ℕ)) (to : List ℕ) → coming roots from to ≡ filter (comes_under roots from to) (range_with_len 0 (length roots))
+coming_are roots None to = refl
+coming_are roots (Some from) to = refl
+
+-- the first root over among them
+pub over_is : (then now : Option Told) (faults_then faults : ℕ) (setup : Setup) (epoch : ℕ) (limits : List LimitNumbers) (books : List Book) (counts : Counts) (history : List Entry) (from : Option (List ℕ)) (to : List ℕ)
     → InOrder then now faults_then faults setup epoch limits books counts history
-    → ((root : ℕ) → gains_at setup.roots root from to ≡ true → standing_at (standings_of books) root ≡ Settled) → (octets : ℕ)
+    → ((root : ℕ) → comes_under setup.roots from to root ≡ true → standing_at (standings_of books) root ≡ Settled) → (octets : ℕ)
     → IfSome (option_map (λ opening. replay setup.roots opening history) (opening_of setup epoch then))
-    (λ account. first_over limits (totals_of books) (gaining setup.roots from to) octets ≡ over_of setup.roots account (gaining setup.roots from to) octets)
-over_gained then now faults_then faults setup epoch limits books counts history from to order settled octets =
-    of_account then now faults_then faults setup epoch limits books counts history (λ account. first_over limits (totals_of books) (gaining setup.roots from to) octets ≡ over_of setup.roots account (gaining setup.roots from to) octets)
+    (λ account. first_over limits (totals_of books) (coming setup.roots from to) octets ≡ over_of setup.roots account (coming setup.roots from to) octets)
+over_is then now faults_then faults setup epoch limits books counts history from to order settled octets =
+    of_account then now faults_then faults setup epoch limits books counts history (λ account. first_over limits (totals_of books) (coming setup.roots from to) octets ≡ over_of setup.roots account (coming setup.roots from to) octets)
     (λ account files holds.
-    first_over_where (λ root. gains_at setup.roots root from to) (length setup.roots) limits (totals_of books) (usages setup.roots account) octets
-    (λ root gained.
-    let inside = governed_inside setup.roots to root (and_parts (governs_at setup.roots root to) (not (governs_at setup.roots root from)) gained).0 in
-    get_or-map (λ (b : Book). b.totals) books root no_book ∙ (holds.kept root inside (sym (standing_of books root) ∙ settled root gained)).totals)
-    ∙ ap (λ ls. first_over ls (usages setup.roots account) (gaining setup.roots from to) octets) (sym holds.limits_are)) order
+    subst (λ (numbers : List ℕ). first_over limits (totals_of books) numbers octets ≡ first_over limits (usages setup.roots account) numbers octets) (sym (coming_are setup.roots from to))
+    (first_over_where (comes_under setup.roots from to) (length setup.roots) limits (totals_of books) (usages setup.roots account) octets
+    (λ root comes.
+    let inside = comes_inside setup.roots from to root comes in
+    get_or-map (λ (b : Book). b.totals) books root no_book ∙ (holds.kept root inside (sym (standing_of books root) ∙ settled root comes)).totals))
+    ∙ ap (λ ls. first_over ls (usages setup.roots account) (coming setup.roots from to) octets) (sym holds.limits_are)) order

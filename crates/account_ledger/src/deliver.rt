@@ -1,7 +1,7 @@
 // A message is delivered: it is put into its mailbox, the ledgers of the mailbox's roots get its line, and the call is entered.
 ghost use Rattle.std.specs.Prelude.{◌≡◌, ◌≢◌, ◌<◌, ◌≤◌, ◌+◌, ◌-◌, ◌^◌, min, ◌++◌, ◌∷◌, [], ℕ, true, false, Some, None, Ok, length, bytes_eq, IfOk, OnOk, OnErr, IsErr, IsTrue};
 ghost use Rattle.std.specs.List.{list_any};
-ghost use Rattle.quota_roots.specs.Governing.{governs_at};
+ghost use Rattle.std.specs.Option.{option_map};
 ghost use Rattle.keeper.specs.Calls.{Changes};
 ghost use Rattle.keeper.specs.Causes.{HasCause, Rose};
 ghost use Rattle.message_names.specs.Written.{written_name};
@@ -9,12 +9,12 @@ ghost use Rattle.message_names.specs.Messages.{message_of};
 ghost use Rattle.message_names.specs.Sizes.{cut};
 ghost use Rattle.account_core.specs.Delivering.{delivered_base};
 ghost use Rattle.account_core.specs.History.{entry_of};
-ghost use Rattle.account_core.specs.Machine.{has_mailbox, over_in, reply_of};
+ghost use Rattle.account_core.specs.Machine.{has_mailbox, over_in, over_of, reply_of};
 ghost use Rattle.account_core.specs.Legality.{MayBeServed, fault_count};
 ghost use Rattle.root_ledgers.specs.declared.book.Standing.TheVariants.{Settled};
 ghost use Rattle.account_ledger.specs.Rows.{IsVerdict};
 ghost use Rattle.account_ledger.specs.Serving.{Enters, Leaves, LedgersStay, SettlesSome, ServesRows, WritesBy, misses, OfAccount, Opened, Serves, StayCalm, WritesLines};
-ghost use Rattle.root_ledgers.specs.Settling.{OnFiles};
+ghost use Rattle.root_ledgers.specs.Settling.{OnFiles, comes_under, coming};
 ghost use Rattle.account_ledger.specs.States.{standing_at};
 
 use crate::AccountState;
@@ -115,7 +115,7 @@ impl<K: Keeper> AccountState<K> {
             self.note(caller, call, false);
             return Ok(Reply::NoMailbox);
         }
-        match self.fits(alloc, mailbox.as_slice(), octets) {
+        match self.fits(alloc, None, mailbox.as_slice(), octets) {
             Ok(Verdict::Fits) => self.accept(alloc, caller, mailbox, octets, flags, bytes),
             Ok(Verdict::Over { root, resource }) => {
                 let call = Call::Deliver {
@@ -137,24 +137,26 @@ impl<K: Keeper> AccountState<K> {
         }
     }
 
-    /// Whether a message of so many octets fits the roots that govern the mailbox; those in doubt are settled first.
+    /// Whether a message of so many octets fits the roots that it comes under when it goes from one mailbox to another; those in
+    /// doubt are settled first. One that is delivered comes from none.
     pub(crate) fn fits(
         &mut self,
         alloc: Global,
-        mailbox: &[u8],
+        from: Option<&[u8]>,
+        to: &[u8],
         octets: u64,
     ) -> Result<Verdict, StepError>
         ensures opened { Opened self.old self.new }
         ensures history { self.new.history ≡ self.old.history }
         ensures reserved { self.new.reserved ≡ self.old.reserved }
-        ensures settled { OnOk result ((root : ℕ) → governs_at self.old.setup.roots root mailbox.now ≡ true → standing_at self.new.standings root ≡ Settled) }
-        ensures settles { SettlesSome (λ root. governs_at self.old.setup.roots root mailbox.now) self.old self.new }
-        ensures verdict { IfOk result (λ verdict. OfAccount self.new (λ account. IsVerdict (over_in self.new.setup.roots account mailbox.now octets) verdict)) }
+        ensures settled { OnOk result ((root : ℕ) → comes_under self.old.setup.roots (option_map (λ m. m.now) from.entry) to.now root ≡ true → standing_at self.new.standings root ≡ Settled) }
+        ensures settles { SettlesSome (comes_under self.old.setup.roots (option_map (λ m. m.now) from.entry) to.now) self.old self.new }
+        ensures verdict { IfOk result (λ verdict. OfAccount self.new (λ account. IsVerdict (over_of self.new.setup.roots account (coming self.new.setup.roots (option_map (λ m. m.now) from.entry) to.now) octets) verdict)) }
         ensures cause { HasCause (result ≡ Err StepError.Store) self.old.faults self.new.faults }
         ensures never_full { (limit : ℕ) → result ≢ Err (StepError.JournalFull limit) }
     {
-        self.settle_mailbox(alloc, mailbox)?;
-        Ok(self.verdict_of(alloc, mailbox, octets)?)
+        self.settle_coming(alloc, from, to)?;
+        Ok(self.verdict_of(alloc, from, to, octets)?)
     }
 
     /// Puts an accepted message into its mailbox, writes its lines, and enters the call.

@@ -1,7 +1,7 @@
 // A message moves to another mailbox: its file moves, roots that it leaves or comes under get its line, and the call is entered.
 ghost use Rattle.std.specs.Prelude.{◌≡◌, ◌≢◌, ◌<◌, [], ℕ, true, false, Some, None, length, bytes_eq, IfOk, IfSome, OnOk};
 ghost use Rattle.std.specs.List.{list_any};
-ghost use Rattle.quota_roots.specs.Governing.{gaining, gains_at};
+ghost use Rattle.quota_roots.specs.Governing.{gaining};
 ghost use Rattle.keeper.specs.Calls.{Changes};
 ghost use Rattle.keeper.specs.Causes.{HasCause, Rose};
 ghost use Rattle.keeper.specs.Files.{listed};
@@ -18,84 +18,14 @@ ghost use Rattle.account_ledger.specs.States.{standing_at};
 use crate::AccountState;
 use crate::fault::step_error;
 use crate::named::rename_file;
-use crate::rows::{are_limits, totals_of};
 use account_core::{Call, Entry, Reply, StepError};
-use admission::{Verdict, admit};
+use admission::Verdict;
 use keeper::{FileRow, Keeper};
 use quota_units::Name;
-use root_ledgers::{MOST, settle_gaining, size_of_file, write_lines};
-use std::alloc::{AllocError, Global};
+use root_ledgers::{size_of_file, write_lines};
+use std::alloc::Global;
 
 impl<K: Keeper> AccountState<K> {
-    /// Settles each root in doubt that governs the mailbox `to` and not the mailbox `from`. It is no entry of the history.
-    fn settle_gained(&mut self, alloc: Global, from: &[u8], to: &[u8]) -> Result<(), StepError>
-        ensures opened { Opened self.old self.new }
-        ensures history { self.new.history ≡ self.old.history }
-        ensures reserved { self.new.reserved ≡ self.old.reserved }
-        ensures settled { OnOk result ((root : ℕ) → gains_at self.old.setup.roots root from.now to.now ≡ true → standing_at self.new.standings root ≡ Settled) }
-        ensures settles { SettlesSome (λ root. gains_at self.old.setup.roots root from.now to.now) self.old self.new }
-        ensures cause { HasCause (result ≡ Err StepError.Store) self.old.faults self.new.faults }
-        ensures never_full { (limit : ℕ) → result ≢ Err (StepError.JournalFull limit) }
-    {
-        let settled = settle_gaining(
-            alloc,
-            &mut self.keeper,
-            &self.setup,
-            &self.limits,
-            &mut self.books,
-            from,
-            to,
-        );
-        if let Err(fault) = settled {
-            return Err(step_error(fault));
-        }
-        Ok(())
-    }
-
-    /// Whether a message fits the roots that govern the mailbox `to` and not the mailbox `from`, which are settled.
-    fn verdict_gained(
-        &self,
-        alloc: Global,
-        from: &[u8],
-        to: &[u8],
-        octets: u64,
-    ) -> Result<Verdict, AllocError>
-        requires { (root : ℕ) → gains_at self.now.setup.roots root from.now to.now ≡ true → standing_at self.now.standings root ≡ Settled }
-        ensures { IfOk result (λ verdict. OfAccount self.now (λ account. IsVerdict (over_of self.now.setup.roots account (gaining self.now.setup.roots from.now to.now) octets) verdict)) }
-    {
-        let totals = totals_of(alloc, &self.books)?;
-        are_limits(&self.limits);
-        // No limit is so large that more octets than these could be within it.
-        let octets = octets.min(MOST);
-        Ok(admit(
-            &self.limits,
-            &totals,
-            self.setup.roots.gained(from, to),
-            octets,
-        ))
-    }
-
-    /// Whether a message fits the roots that it comes under when it is moved; those in doubt are settled first.
-    fn fits_gained(
-        &mut self,
-        alloc: Global,
-        from: &Name,
-        to: &Name,
-        octets: u64,
-    ) -> Result<Verdict, StepError>
-        ensures opened { Opened self.old self.new }
-        ensures history { self.new.history ≡ self.old.history }
-        ensures reserved { self.new.reserved ≡ self.old.reserved }
-        ensures settled { OnOk result ((root : ℕ) → gains_at self.old.setup.roots root from.now to.now ≡ true → standing_at self.new.standings root ≡ Settled) }
-        ensures settles { SettlesSome (λ root. gains_at self.old.setup.roots root from.now to.now) self.old self.new }
-        ensures verdict { IfOk result (λ verdict. OfAccount self.new (λ account. IsVerdict (over_of self.new.setup.roots account (gaining self.new.setup.roots from.now to.now) octets) verdict)) }
-        ensures cause { HasCause (result ≡ Err StepError.Store) self.old.faults self.new.faults }
-        ensures never_full { (limit : ℕ) → result ≢ Err (StepError.JournalFull limit) }
-    {
-        self.settle_gained(alloc, from.as_slice(), to.as_slice())?;
-        Ok(self.verdict_gained(alloc, from.as_slice(), to.as_slice(), octets)?)
-    }
-
     /// Serves a move of this caller: the message of this base goes from one mailbox to another, and keeps its file's name.
     ///
     /// # Errors
@@ -192,7 +122,7 @@ impl<K: Keeper> AccountState<K> {
     {
         self.is_in_order();
         let octets = size_of_file(&file);
-        match self.fits_gained(alloc, &from, &to, octets) {
+        match self.fits(alloc, Some(from.as_slice()), to.as_slice(), octets) {
             Ok(Verdict::Fits) => self.carry(alloc, caller, from, base, to, file),
             Ok(Verdict::Over { root, resource }) => {
                 self.note(caller, Call::Move { from, base, to }, false);

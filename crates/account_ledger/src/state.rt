@@ -3,7 +3,7 @@ ghost use Rattle.std.specs.Prelude.{◌≡◌, ◌≢◌, ◌<◌, ◌≤◌, �
 ghost use Rattle.quota_roots.specs.RootLists.{place_of};
 ghost use Rattle.admission.specs.Fitting.{limits_at};
 ghost use Rattle.quota_roots.specs.Governing.{governs_at};
-ghost use Rattle.account_core.specs.Machine.{governing_rows, over_in, reply_of};
+ghost use Rattle.account_core.specs.Machine.{governing_rows, over_of, reply_of};
 ghost use Rattle.account_ledger.specs.Rows.{IsVerdict};
 ghost use Rattle.keeper.specs.Causes.{HasCause, Rose};
 ghost use Rattle.account_ledger.specs.Order.{IsInOrder};
@@ -13,7 +13,8 @@ ghost use Rattle.account_core.specs.History.{entry_of};
 ghost use Rattle.keeper.specs.Calls.{Changes};
 ghost use Rattle.quota_roots.specs.Setups.{IsSound};
 ghost use Rattle.account_opening.specs.Admitting.{IsRefused, MayOpen};
-ghost use Rattle.root_ledgers.specs.Settling.{OnFiles};
+ghost use Rattle.std.specs.Option.{option_map};
+ghost use Rattle.root_ledgers.specs.Settling.{OnFiles, comes_under, coming};
 ghost use Rattle.account_ledger.specs.States.{IsOpened, standing_at, usage_at};
 ghost use Rattle.root_ledgers.specs.declared.book.Standing.TheVariants.{Settled};
 
@@ -27,7 +28,7 @@ use admission::{Verdict, admit};
 use keeper::Keeper;
 use quota_roots::Setup;
 use quota_units::{Limits, Totals};
-use root_ledgers::{Book, MOST, Standing, books_in_doubt, settle, settle_governing};
+use root_ledgers::{Book, MOST, Standing, books_in_doubt, coming, settle, settle_coming};
 use std::alloc::{AllocError, Global};
 use std::marker::Model;
 use std::snapshot::Snapshot;
@@ -362,23 +363,30 @@ impl<K: Keeper> AccountState<K> {
         Ok(self.books[root as usize].totals)
     }
 
-    /// Settles each root in doubt that governs the mailbox. It is no entry of the history.
-    pub(crate) fn settle_mailbox(&mut self, alloc: Global, mailbox: &[u8]) -> Result<(), StepError>
+    /// Settles each root in doubt that a message comes under which goes from one mailbox to another; one that is delivered comes
+    /// from none. It is no entry of the history.
+    pub(crate) fn settle_coming(
+        &mut self,
+        alloc: Global,
+        from: Option<&[u8]>,
+        to: &[u8],
+    ) -> Result<(), StepError>
         ensures opened { Opened self.old self.new }
         ensures history { self.new.history ≡ self.old.history }
         ensures reserved { self.new.reserved ≡ self.old.reserved }
-        ensures settled { OnOk result ((root : ℕ) → governs_at self.old.setup.roots root mailbox.now ≡ true → standing_at self.new.standings root ≡ Settled) }
-        ensures settles { SettlesSome (λ root. governs_at self.old.setup.roots root mailbox.now) self.old self.new }
+        ensures settled { OnOk result ((root : ℕ) → comes_under self.old.setup.roots (option_map (λ m. m.now) from.entry) to.now root ≡ true → standing_at self.new.standings root ≡ Settled) }
+        ensures settles { SettlesSome (comes_under self.old.setup.roots (option_map (λ m. m.now) from.entry) to.now) self.old self.new }
         ensures cause { HasCause (result ≡ Err StepError.Store) self.old.faults self.new.faults }
         ensures never_full { (limit : ℕ) → result ≢ Err (StepError.JournalFull limit) }
     {
-        let settled = settle_governing(
+        let settled = settle_coming(
             alloc,
             &mut self.keeper,
             &self.setup,
             &self.limits,
             &mut self.books,
-            mailbox,
+            from,
+            to,
         );
         if let Err(fault) = settled {
             return Err(step_error(fault));
@@ -394,26 +402,23 @@ impl<K: Keeper> AccountState<K> {
         rows_of(alloc, &self.setup.roots, &self.limits, &self.books, mailbox)
     }
 
-    /// Whether a message fits the roots that govern the mailbox, which are settled.
+    /// Whether a message fits the roots that it comes under when it goes from one mailbox to another, which are settled.
     pub(crate) fn verdict_of(
         &self,
         alloc: Global,
-        mailbox: &[u8],
+        from: Option<&[u8]>,
+        to: &[u8],
         octets: u64,
     ) -> Result<Verdict, AllocError>
-        requires { (root : ℕ) → governs_at self.now.setup.roots root mailbox.now ≡ true → standing_at self.now.standings root ≡ Settled }
-        ensures { IfOk result (λ verdict. OfAccount self.now (λ account. IsVerdict (over_in self.now.setup.roots account mailbox.now octets) verdict)) }
+        requires { (root : ℕ) → comes_under self.now.setup.roots (option_map (λ m. m.now) from) to.now root ≡ true → standing_at self.now.standings root ≡ Settled }
+        ensures { IfOk result (λ verdict. OfAccount self.now (λ account. IsVerdict (over_of self.now.setup.roots account (coming self.now.setup.roots (option_map (λ m. m.now) from.entry) to.now) octets) verdict)) }
     {
         let totals = totals_of(alloc, &self.books)?;
         are_limits(&self.limits);
         // No limit is so large that more octets than these could be within it.
         let octets = octets.min(MOST);
-        Ok(admit(
-            &self.limits,
-            &totals,
-            self.setup.roots.roots_of(mailbox),
-            octets,
-        ))
+        let roots = coming(&self.setup.roots, from, to);
+        Ok(admit(&self.limits, &totals, roots, octets))
     }
 
     /// What the quota of the root of this name is answered; a root in doubt is settled first.
@@ -455,7 +460,7 @@ impl<K: Keeper> AccountState<K> {
         ensures cause { HasCause (result ≡ Err StepError.Store) self.old.faults self.new.faults }
         ensures never_full { (limit : ℕ) → result ≢ Err (StepError.JournalFull limit) }
     {
-        self.settle_mailbox(alloc, mailbox)?;
+        self.settle_coming(alloc, None, mailbox)?;
         let rows = self.rows_of(alloc, mailbox)?;
         Ok(Reply::Roots(rows))
     }
@@ -473,8 +478,8 @@ impl<K: Keeper> AccountState<K> {
         ensures cause { HasCause (result ≡ Err StepError.Store) self.old.faults self.new.faults }
         ensures never_full { (limit : ℕ) → result ≢ Err (StepError.JournalFull limit) }
     {
-        self.settle_mailbox(alloc, b"INBOX")?;
-        let verdict = self.verdict_of(alloc, b"INBOX", octets)?;
+        self.settle_coming(alloc, None, b"INBOX")?;
+        let verdict = self.verdict_of(alloc, None, b"INBOX", octets)?;
         Ok(check_reply(verdict))
     }
 

@@ -1,6 +1,6 @@
 -- Roots are settled one after another.
-use Rattle.std.proofs.Common.{◌≡◌, ℕ, ◌<◌, ◌+◌, Bool, true, false, nat_eq, List, length, Option, Some, refl, sym, ap, ◌∙◌, inl, inr, subst, eqb-true, arith}
-use Rattle.std.proofs.lemmas.Bool.{false≢true, cases_lt}
+use Rattle.std.proofs.Common.{◌≡◌, ℕ, ◌<◌, ◌+◌, Bool, true, false, not, nat_eq, List, length, Option, Some, None, refl, sym, ap, ◌∙◌, inl, inr, subst, eqb-true, arith}
+use Rattle.std.proofs.lemmas.Bool.{false≢true, and_parts, cases_lt}
 use Rattle.std.proofs.lemmas.Option.{slice_get_past}
 use Rattle.std.specs.Option.{option_map_or}
 use Rattle.quota_units.specs.Limiting.{LimitNumbers}
@@ -15,7 +15,7 @@ use Rattle.root_ledgers.specs.declared.book.Standing.{Standing}
 use Rattle.root_ledgers.specs.declared.book.Standing.TheVariants.{Settled, Doubt}
 use Rattle.root_ledgers.specs.Scans.{scan}
 use Rattle.root_ledgers.specs.Ledgers.{folded}
-use Rattle.root_ledgers.specs.Settling.{OnFiles, book_at, folded_book, SettlesOrStays, Settling, Marks, MarksOne}
+use Rattle.root_ledgers.specs.Settling.{OnFiles, book_at, folded_book, SettlesOrStays, Settling, Marks, MarksOne, comes_under}
 use Rattle.keeper.proofs.Changing.{changes_then, changes_same}
 
 one_then : (may may1 : Bool) → (may1 ≡ true → may ≡ true) → (limits : LimitNumbers) (totals totals1 : Totals) → totals1 ≡ totals → (book book1 book2 : Book) (ledger ledger1 ledger2 : Option (List ℕ))
@@ -74,6 +74,10 @@ governed_inside roots mailbox root governed = elim (cases_lt root (length roots)
   | inl inside ↦ inside
   | inr past ↦ absurd (false≢true (sym (ap (λ o. option_map_or (λ spec. governs spec mailbox) o false) (slice_get_past roots root past)) ∙ governed))
 ]
+
+pub comes_inside : (roots : List RootSpec) (from : Option (List ℕ)) (to : List ℕ) (root : ℕ) → comes_under roots from to root ≡ true → root < length roots
+comes_inside roots None to root comes = governed_inside roots to root comes
+comes_inside roots (Some from) to root comes = governed_inside roots to root (and_parts (governs_at roots root to) (not (governs_at roots root from)) comes).0
 
 pub only_one : (may : ℕ → Bool) (root : ℕ) → may root ≡ true → (r : ℕ) → nat_eq root r ≡ true → may r ≡ true
 only_one may root is r same = subst (λ k. may k ≡ true) (eqb-true root r same) is

@@ -11,4 +11,4 @@ pub use book::{Book, Standing, books_in_doubt};
 pub use change::Change;
 pub use lines::write_lines;
 pub use scan::{MOST, cut_sum, size_of_file, totals_of_files};
-pub use settling::{settle, settle_gaining, settle_governing};
+pub use settling::{coming, settle, settle_coming};

@@ -2,16 +2,16 @@
 ghost use Rattle.std.specs.Prelude.{◌≡◌, ◌<◌, ℕ, true, length, nat_eq, OnOk, IsErrOf, All};
 ghost use Rattle.keeper.specs.Causes.{HasCause};
 ghost use Rattle.keeper.specs.Calls.{Changes};
-ghost use Rattle.quota_roots.specs.Governing.{gains_at, governs_at};
+ghost use Rattle.std.specs.Option.{option_map};
 ghost use Rattle.root_ledgers.specs.declared.book.Standing.TheVariants.{Settled};
 ghost use Rattle.root_ledgers.specs.Scans.{AreSmall};
-ghost use Rattle.root_ledgers.specs.Settling.{OnFiles, Settling, Marks, book_at};
+ghost use Rattle.root_ledgers.specs.Settling.{OnFiles, Settling, Marks, book_at, comes_under, coming};
 
 use crate::book::{Book, Standing};
 use crate::scan::scan_root;
 use keeper::{KeepError, Keeper};
 use maildirsize::{Text, print_folded};
-use quota_roots::{Roots, Setup};
+use quota_roots::{RootSet, Roots, Setup};
 use quota_units::Limits;
 use std::alloc::Global;
 
@@ -57,73 +57,57 @@ pub fn settle<K: Keeper>(
     Ok(())
 }
 
-/// Settles each root in doubt that governs the mailbox.
+/// Settles each root in doubt that a message comes under which goes from one mailbox to another; one that is delivered comes from
+/// none.
 ///
 /// # Errors
 ///
 /// `Failed` where the store failed, and `NoMemory`. Some of the roots may be settled then.
-pub fn settle_governing<K: Keeper>(
+pub fn settle_coming<K: Keeper>(
     alloc: Global,
     keeper: &mut K,
     setup: &Setup,
     limits: &[Limits],
     books: &mut Vec<Book>,
-    mailbox: &[u8],
-) -> Result<(), KeepError>
-    requires limits { length limits.now ≡ length setup.now.roots }
-    requires books { length books.old.items ≡ length setup.now.roots }
-    requires small { All (λ book. AreSmall book.totals) books.old.items }
-    ensures files { Changes (OnFiles (Settling (λ root. governs_at setup.now.roots root mailbox.now) setup.now.roots limits.now setup.now.mailboxes books.old.items books.new.items)) (K.told keeper.old) (K.told keeper.new) }
-    ensures marks { Marks (λ root. governs_at setup.now.roots root mailbox.now) books.old.items books.new.items }
-    ensures small { All (λ book. AreSmall book.totals) books.new.items }
-    ensures settled { OnOk result ((root : ℕ) → governs_at setup.now.roots root mailbox.now ≡ true → (book_at books.new.items root).standing ≡ Settled) }
-    ensures cause { HasCause (IsErrOf result KeepError.Failed) (K.faults keeper.old) (K.faults keeper.new) }
-    ensures appends { K.append_faults keeper.new ≡ K.append_faults keeper.old }
-{
-    for root in 0..setup.roots.count() {
-        if setup.roots.governs(root, mailbox) {
-            settle(alloc, keeper, setup, limits, books, root)?;
-        }
-    }
-    Ok(())
-}
-
-/// Settles each root in doubt that governs the mailbox `to` and not the mailbox `from`.
-///
-/// # Errors
-///
-/// `Failed` where the store failed, and `NoMemory`. Some of the roots may be settled then.
-pub fn settle_gaining<K: Keeper>(
-    alloc: Global,
-    keeper: &mut K,
-    setup: &Setup,
-    limits: &[Limits],
-    books: &mut Vec<Book>,
-    from: &[u8],
+    from: Option<&[u8]>,
     to: &[u8],
 ) -> Result<(), KeepError>
     requires limits { length limits.now ≡ length setup.now.roots }
     requires books { length books.old.items ≡ length setup.now.roots }
     requires small { All (λ book. AreSmall book.totals) books.old.items }
-    ensures files { Changes (OnFiles (Settling (λ root. gains_at setup.now.roots root from.now to.now) setup.now.roots limits.now setup.now.mailboxes books.old.items books.new.items)) (K.told keeper.old) (K.told keeper.new) }
-    ensures marks { Marks (λ root. gains_at setup.now.roots root from.now to.now) books.old.items books.new.items }
+    ensures files { Changes (OnFiles (Settling (comes_under setup.now.roots (option_map (λ m. m.now) from.entry) to.now) setup.now.roots limits.now setup.now.mailboxes books.old.items books.new.items)) (K.told keeper.old) (K.told keeper.new) }
+    ensures marks { Marks (comes_under setup.now.roots (option_map (λ m. m.now) from.entry) to.now) books.old.items books.new.items }
     ensures small { All (λ book. AreSmall book.totals) books.new.items }
-    ensures settled { OnOk result ((root : ℕ) → gains_at setup.now.roots root from.now to.now ≡ true → (book_at books.new.items root).standing ≡ Settled) }
+    ensures settled { OnOk result ((root : ℕ) → comes_under setup.now.roots (option_map (λ m. m.now) from.entry) to.now root ≡ true → (book_at books.new.items root).standing ≡ Settled) }
     ensures cause { HasCause (IsErrOf result KeepError.Failed) (K.faults keeper.old) (K.faults keeper.new) }
     ensures appends { K.append_faults keeper.new ≡ K.append_faults keeper.old }
 {
     for root in 0..setup.roots.count() {
-        if gains(&setup.roots, root, from, to) {
+        if comes_under(&setup.roots, root, from, to) {
             settle(alloc, keeper, setup, limits, books, root)?;
         }
     }
     Ok(())
 }
 
-/// Whether a message that moves from one mailbox to another comes under the root.
-fn gains(roots: &Roots, root: u32, from: &[u8], to: &[u8]) -> bool
+/// Whether a message that goes from one mailbox to another comes under the root.
+fn comes_under(roots: &Roots, root: u32, from: Option<&[u8]>, to: &[u8]) -> bool
     requires { root < length roots.now }
-    ensures { result ≡ gains_at roots.now root from.now to.now }
+    ensures { result ≡ comes_under roots.now (option_map (λ m. m.now) from.entry) to.now root }
 {
-    roots.governs(root, to) && !roots.governs(root, from)
+    match from {
+        None => roots.governs(root, to),
+        Some(from) => roots.governs(root, to) && !roots.governs(root, from),
+    }
+}
+
+/// The roots that a message comes under which goes from one mailbox to another; one that is delivered comes from none.
+pub fn coming(roots: &Roots, from: Option<&[u8]>, to: &[u8]) -> RootSet
+    ensures value { result ≡ coming roots.now (option_map (λ m. m.now) from.entry) to.now }
+    ensures below { All (λ root. root < length roots.now) result }
+{
+    match from {
+        None => roots.roots_of(to),
+        Some(from) => roots.gained(from, to),
+    }
 }
