@@ -9,4 +9,5 @@ pub mod Moving
 pub mod Apart
 pub mod Naming
 pub mod Worked
+pub mod Forming
 pub mod WholeScans

@@ -5,6 +5,7 @@ pub mod Refusals
 pub mod Changing
 pub mod Scanning
 pub mod Machine
+pub mod Forms
 pub mod History
 pub mod Legality
 pub mod Histories

@@ -1,4 +1,5 @@
 ghost use Rattle.account_core.specs.Generations.{EqualGenerationEqualUsage, GenerationIsCounted};
+ghost use Rattle.account_core.specs.Forms.{RepliesHaveForm};
 ghost use Rattle.account_core.specs.Naming.{NamesStayApart};
 ghost use Rattle.account_core.specs.Worked.{MessagesAreCounted, MovesAreAnswered, ScansAreAnswered};
 ghost use Rattle.account_core.specs.WholeScans.{WholeScanIsUsage};
@@ -47,6 +48,11 @@ pub fn names_stay_apart()
 /// message was in one of them when the account was opened.
 pub fn whole_scans_are_usages()
     ensures { WholeScanIsUsage }
+{}
+
+/// The machine's replies are of the kinds that their calls may get, and the roots that they name are there.
+pub fn replies_have_their_form()
+    ensures { RepliesHaveForm }
 {}
 
 /// Worked accounts: moves out of Trash, into it and within a mailbox; messages that are moved, marked, removed and counted; and

@@ -8,6 +8,7 @@ pub mod Bases
 pub mod Replying
 pub mod Questioning
 pub mod Stating
+pub mod Inside
 pub mod Answering
 pub mod Entering
 pub mod Ordering

@@ -1,5 +1,5 @@
 -- The rows of roots, by what is kept of them.
-use Rattle.std.specs.Prelude.{◌≡◌, ℕ, List, map, Option, Some, None}
+use Rattle.std.specs.Prelude.{◌≡◌, ◌<◌, ℕ, List, map, Option, Some, None}
 use Rattle.quota_units.specs.Limiting.{LimitNumbers}
 use Rattle.quota_units.specs.declared.totals.Totals.{Totals}
 use Rattle.quota_units.specs.declared.resource.Resource.{Resource}
@@ -30,3 +30,8 @@ totals_of books = map (λ book. book.totals) books
 abbrev pub IsVerdict : Option (ℕ × Resource) → Verdict → Type 0
 IsVerdict over Fits = over ≡ None
 IsVerdict over (Over root resource) = over ≡ Some (root, resource)
+
+-- a root that the verdict names is below this number
+abbrev pub IsInside : ℕ → Verdict → Type 0
+IsInside count Fits = Unit {0}
+IsInside count (Over root resource) = root < count

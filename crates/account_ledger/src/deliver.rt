@@ -10,9 +10,10 @@ ghost use Rattle.message_names.specs.Sizes.{cut};
 ghost use Rattle.account_core.specs.Delivering.{delivered_base};
 ghost use Rattle.account_core.specs.History.{entry_of};
 ghost use Rattle.account_core.specs.Machine.{has_mailbox, over_in, over_of, reply_of};
+ghost use Rattle.account_core.specs.Forms.{HasForm};
 ghost use Rattle.account_core.specs.Legality.{MayBeServed, fault_count};
 ghost use Rattle.root_ledgers.specs.declared.book.Standing.TheVariants.{Settled};
-ghost use Rattle.account_ledger.specs.Rows.{IsVerdict};
+ghost use Rattle.account_ledger.specs.Rows.{IsInside, IsVerdict};
 ghost use Rattle.account_ledger.specs.Serving.{Enters, Leaves, LedgersStay, SettlesSome, ServesRows, WritesBy, misses, OfAccount, Opened, Serves, StayCalm, WritesLines};
 ghost use Rattle.root_ledgers.specs.Settling.{OnFiles, comes_under, coming};
 ghost use Rattle.account_ledger.specs.States.{standing_at};
@@ -103,6 +104,7 @@ impl<K: Keeper> AccountState<K> {
         requires room { length self.old.history < self.old.setup.journal }
         requires held { length self.old.history < self.old.reserved }
         ensures serves { Serves caller (Call.Deliver mailbox octets flags) bytes.now result self.old self.new }
+        ensures form { IfOk result (HasForm self.old.setup.roots self.old.setup.mailboxes (Call.Deliver mailbox octets flags)) }
         ensures never_full { (limit : ℕ) → result ≢ Err (StepError.JournalFull limit) }
     {
         self.is_in_order();
@@ -152,6 +154,7 @@ impl<K: Keeper> AccountState<K> {
         ensures settled { OnOk result ((root : ℕ) → comes_under self.old.setup.roots (option_map (λ m. m.now) from.entry) to.now root ≡ true → standing_at self.new.standings root ≡ Settled) }
         ensures settles { SettlesSome (comes_under self.old.setup.roots (option_map (λ m. m.now) from.entry) to.now) self.old self.new }
         ensures verdict { IfOk result (λ verdict. OfAccount self.new (λ account. IsVerdict (over_of self.new.setup.roots account (coming self.new.setup.roots (option_map (λ m. m.now) from.entry) to.now) octets) verdict)) }
+        ensures inside { IfOk result (IsInside (length self.old.setup.roots)) }
         ensures cause { HasCause (result ≡ Err StepError.Store) self.old.faults self.new.faults }
         ensures never_full { (limit : ℕ) → result ≢ Err (StepError.JournalFull limit) }
     {
@@ -178,6 +181,7 @@ impl<K: Keeper> AccountState<K> {
         ensures opened { Opened self.old self.new }
         ensures enters { Enters caller (Call.Deliver mailbox octets flags) result self.old.history self.new.history }
         ensures reply { IfOk result (λ given. OfAccount self.old (λ account. given ≡ reply_of self.old.setup.roots account (Call.Deliver mailbox octets flags))) }
+        ensures form { IfOk result (HasForm self.old.setup.roots self.old.setup.mailboxes (Call.Deliver mailbox octets flags)) }
         ensures writes { WritesBy (Call.Deliver mailbox octets flags) result self.old self.new }
         ensures rows { Changes (OnFiles (λ files files'. ServesRows self.old.epoch (Call.Deliver mailbox octets flags) bytes.now result files.rows files'.rows)) self.old.told self.new.told }
         ensures there { IfOk result (λ given. misses given ≡ false) }

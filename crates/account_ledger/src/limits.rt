@@ -5,6 +5,7 @@ ghost use Rattle.keeper.specs.Calls.{Changes};
 ghost use Rattle.keeper.specs.Causes.{HasCause};
 ghost use Rattle.account_core.specs.History.{entry_of};
 ghost use Rattle.account_core.specs.Machine.{reply_of};
+ghost use Rattle.account_core.specs.Forms.{HasForm};
 ghost use Rattle.root_ledgers.specs.declared.book.Standing.TheVariants.{Settled};
 ghost use Rattle.account_ledger.specs.Serving.{InstallsLimits, LedgersStay, OfAccount, Opened, Serves};
 ghost use Rattle.root_ledgers.specs.Settling.{OnFiles};
@@ -36,6 +37,7 @@ impl<K: Keeper> AccountState<K> {
         requires room { length self.old.history < self.old.setup.journal }
         requires held { length self.old.history < self.old.reserved }
         ensures serves { Serves caller (Call.SetLimits root limits) [] result self.old self.new }
+        ensures form { IfOk result (HasForm self.old.setup.roots self.old.setup.mailboxes (Call.SetLimits root limits)) }
         ensures never_full { (limit : ℕ) → result ≢ Err (StepError.JournalFull limit) }
     {
         let Some(place) = self.find_root(root.as_slice()) else {
@@ -61,7 +63,8 @@ impl<K: Keeper> AccountState<K> {
         requires room { length self.old.history < self.old.setup.journal }
         requires held { length self.old.history < self.old.reserved }
         requires nowhere { place_of self.old.setup.roots root ≡ None }
-        ensures { Serves caller (Call.SetLimits root limits) [] (Ok result) self.old self.new }
+        ensures serves { Serves caller (Call.SetLimits root limits) [] (Ok result) self.old self.new }
+        ensures form { HasForm self.old.setup.roots self.old.setup.mailboxes (Call.SetLimits root limits) result }
     {
         let _limits = self.has_limits();
         self.is_in_order();
@@ -91,6 +94,7 @@ impl<K: Keeper> AccountState<K> {
         ensures enters_fault { OnErr result (self.new.history ≡ self.old.history ++ entry_of caller (Call.SetLimits name limits) true ∷ []) }
         ensures installs { IfOk result (λ row. InstallsLimits row self.old self.new) }
         ensures reply { IfOk result (λ row. OfAccount self.old (λ account. Reply.LimitsSet row ≡ reply_of self.old.setup.roots account (Call.SetLimits name limits))) }
+        ensures named { IfOk result (λ row. row.root ≡ root) }
         ensures stays { OnErr result (LedgersStay self.old self.new) }
         ensures rows { Changes (OnFiles (λ files files'. files'.rows ≡ files.rows)) self.old.told self.new.told }
         ensures cause { HasCause (IsErr result) self.old.faults self.new.faults }

@@ -6,6 +6,7 @@ ghost use Rattle.keeper.specs.Calls.{Changes};
 ghost use Rattle.keeper.specs.Causes.{HasCause, Rose};
 ghost use Rattle.keeper.specs.Files.{listed};
 ghost use Rattle.account_core.specs.Machine.{over_of, reply_of};
+ghost use Rattle.account_core.specs.Forms.{HasForm};
 ghost use Rattle.account_core.specs.Legality.{MayMove};
 ghost use Rattle.root_ledgers.specs.declared.book.Standing.TheVariants.{Settled};
 ghost use Rattle.account_ledger.specs.Messages.{message_in};
@@ -43,6 +44,7 @@ impl<K: Keeper> AccountState<K> {
         requires room { length self.old.history < self.old.setup.journal }
         requires held { length self.old.history < self.old.reserved }
         ensures serves { Serves caller (Call.Move from base to) [] result self.old self.new }
+        ensures form { IfOk result (HasForm self.old.setup.roots self.old.setup.mailboxes (Call.Move from base to)) }
         ensures never_full { (limit : ℕ) → result ≢ Err (StepError.JournalFull limit) }
     {
         self.is_in_order();
@@ -82,6 +84,7 @@ impl<K: Keeper> AccountState<K> {
         requires found { IfSome self.old.told (λ t. Some file ≡ file_named base (listed from t.files.rows)) }
         requires there { OfAccount self.old (IsThere from base to (message_in from file)) }
         ensures serves { Serves caller (Call.Move from base to) [] result self.old self.new }
+        ensures form { IfOk result (HasForm self.old.setup.roots self.old.setup.mailboxes (Call.Move from base to)) }
         ensures never_full { (limit : ℕ) → result ≢ Err (StepError.JournalFull limit) }
     {
         self.is_in_order();
@@ -118,6 +121,7 @@ impl<K: Keeper> AccountState<K> {
         requires may { OfAccount self.old (λ account. MayMove account from base to (message_in from file)) }
         requires apart { bytes_eq from to ≡ false }
         ensures serves { Serves caller (Call.Move from base to) [] result self.old self.new }
+        ensures form { IfOk result (HasForm self.old.setup.roots self.old.setup.mailboxes (Call.Move from base to)) }
         ensures never_full { (limit : ℕ) → result ≢ Err (StepError.JournalFull limit) }
     {
         self.is_in_order();
@@ -154,6 +158,7 @@ impl<K: Keeper> AccountState<K> {
         ensures opened { Opened self.old self.new }
         ensures enters { Enters caller (Call.Move from base to) result self.old.history self.new.history }
         ensures reply { IfOk result (λ given. OfAccount self.old (λ account. given ≡ reply_of self.old.setup.roots account (Call.Move from base to))) }
+        ensures form { IfOk result (HasForm self.old.setup.roots self.old.setup.mailboxes (Call.Move from base to)) }
         ensures writes { WritesBy (Call.Move from base to) result self.old self.new }
         ensures rows { Changes (OnFiles (λ files files'. ServesRows self.old.epoch (Call.Move from base to) [] result files.rows files'.rows)) self.old.told self.new.told }
         ensures there { IfOk result (λ given. misses given ≡ false) }

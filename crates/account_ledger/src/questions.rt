@@ -4,6 +4,7 @@ ghost use Rattle.std.specs.List.{list_any};
 ghost use Rattle.quota_roots.specs.Governing.{governing};
 ghost use Rattle.keeper.specs.Causes.{HasCause, next_count};
 ghost use Rattle.account_core.specs.Machine.{reply_of};
+ghost use Rattle.account_core.specs.Forms.{HasForm};
 ghost use Rattle.account_ledger.specs.Counting.{TellMailbox, mailbox_at};
 ghost use Rattle.account_ledger.specs.Questions.{Looks};
 ghost use Rattle.account_ledger.specs.Serving.{OfAccount, Opened, SettlesSome};
@@ -66,6 +67,7 @@ impl<K: Keeper> AccountState<K> {
         ensures history { self.new.history ≡ self.old.history }
         ensures reserved { self.new.reserved ≡ self.old.reserved }
         ensures reply { IfOk result (λ given. OfAccount self.old (λ account. given ≡ reply_of self.old.setup.roots account (Call.Status mailbox.now))) }
+        ensures form { IfOk result (HasForm self.old.setup.roots self.old.setup.mailboxes (Call.Status mailbox.now)) }
         ensures settles { SettlesSome (λ root. false) self.old self.new }
         ensures cause { HasCause (result ≡ Err StepError.Store) self.old.faults self.new.faults }
         ensures never_full { (limit : ℕ) → result ≢ Err (StepError.JournalFull limit) }
@@ -90,6 +92,7 @@ impl<K: Keeper> AccountState<K> {
     /// The generation, and the roots that govern each mailbox. No mailbox is listed.
     pub(crate) fn scan_begin(&self, alloc: Global) -> Result<Reply, StepError>
         ensures reply { IfOk result (λ given. OfAccount self.now (λ account. given ≡ reply_of self.now.setup.roots account Call.ScanBegin)) }
+        ensures form { IfOk result (HasForm self.now.setup.roots self.now.setup.mailboxes Call.ScanBegin) }
         ensures never_failed { result ≢ Err StepError.Store }
         ensures never_full { (limit : ℕ) → result ≢ Err (StepError.JournalFull limit) }
     {
@@ -104,6 +107,7 @@ impl<K: Keeper> AccountState<K> {
         ensures history { self.new.history ≡ self.old.history }
         ensures reserved { self.new.reserved ≡ self.old.reserved }
         ensures reply { IfOk result (λ given. OfAccount self.old (λ account. given ≡ reply_of self.old.setup.roots account (Call.ScanPart index))) }
+        ensures form { IfOk result (HasForm self.old.setup.roots self.old.setup.mailboxes (Call.ScanPart index)) }
         ensures settles { SettlesSome (λ root. false) self.old self.new }
         ensures lists { (self.new.lists ≡ self.old.lists) ⊎ (self.new.lists ≡ next_count self.old.lists) }
         ensures cause { HasCause (result ≡ Err StepError.Store) self.old.faults self.new.faults }

@@ -6,6 +6,7 @@ ghost use Rattle.keeper.specs.Causes.{Rose};
 ghost use Rattle.keeper.specs.Files.{listed};
 ghost use Rattle.account_core.specs.Legality.{MayBeServed};
 ghost use Rattle.account_core.specs.Machine.{reply_of};
+ghost use Rattle.account_core.specs.Forms.{HasForm};
 ghost use Rattle.account_ledger.specs.NamedFiles.{file_named};
 ghost use Rattle.account_ledger.specs.Serving.{Enters, OfAccount, Opened, Serves, ServesRows, WritesBy, misses};
 ghost use Rattle.root_ledgers.specs.Settling.{OnFiles};
@@ -34,6 +35,7 @@ impl<K: Keeper> AccountState<K> {
         requires room { length self.old.history < self.old.setup.journal }
         requires held { length self.old.history < self.old.reserved }
         ensures serves { Serves caller (Call.Remove mailbox base) [] result self.old self.new }
+        ensures form { IfOk result (HasForm self.old.setup.roots self.old.setup.mailboxes (Call.Remove mailbox base)) }
         ensures never_full { (limit : ℕ) → result ≢ Err (StepError.JournalFull limit) }
     {
         self.is_in_order();
@@ -67,6 +69,7 @@ impl<K: Keeper> AccountState<K> {
         ensures opened { Opened self.old self.new }
         ensures enters { Enters caller (Call.Remove mailbox base) result self.old.history self.new.history }
         ensures reply { IfOk result (λ given. OfAccount self.old (λ account. given ≡ reply_of self.old.setup.roots account (Call.Remove mailbox base))) }
+        ensures form { IfOk result (HasForm self.old.setup.roots self.old.setup.mailboxes (Call.Remove mailbox base)) }
         ensures writes { WritesBy (Call.Remove mailbox base) result self.old self.new }
         ensures rows { Changes (OnFiles (λ files files'. ServesRows self.old.epoch (Call.Remove mailbox base) [] result files.rows files'.rows)) self.old.told self.new.told }
         ensures there { IfOk result (λ given. misses given ≡ false) }

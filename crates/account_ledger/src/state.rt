@@ -1,10 +1,11 @@
 // The state of an account.
-ghost use Rattle.std.specs.Prelude.{◌≡◌, ◌≢◌, ◌<◌, ◌≤◌, ◌+◌, ◌-◌, ◌^◌, ◌↔◌, ◌++◌, ◌∷◌, [], min, ℕ, true, false, IsTrue, length, nat_eq, codes, IfOk, IfErr, IfSome, OnOk};
+ghost use Rattle.std.specs.Prelude.{◌≡◌, ◌≢◌, ◌<◌, ◌≤◌, ◌+◌, ◌-◌, ◌^◌, ◌↔◌, ◌++◌, ◌∷◌, [], min, ℕ, true, false, IsTrue, length, nat_eq, codes, IfOk, IfErr, IfSome, OnOk, All};
 ghost use Rattle.quota_roots.specs.RootLists.{place_of};
 ghost use Rattle.admission.specs.Fitting.{limits_at};
 ghost use Rattle.quota_roots.specs.Governing.{governs_at};
 ghost use Rattle.account_core.specs.Machine.{governing_rows, over_of, reply_of};
-ghost use Rattle.account_ledger.specs.Rows.{IsVerdict};
+ghost use Rattle.account_core.specs.Forms.{HasForm};
+ghost use Rattle.account_ledger.specs.Rows.{IsInside, IsVerdict};
 ghost use Rattle.keeper.specs.Causes.{HasCause, Rose};
 ghost use Rattle.account_ledger.specs.Order.{IsInOrder};
 ghost use Rattle.account_ledger.specs.Serving.{Opened, OfAccount, SettlesSome, Enters, HasBytes, IsQuestion, IsServed, Leaves, ListsFor, Serves, ServesLedgers, ServesRows, is_place, misses, needs};
@@ -179,6 +180,7 @@ impl<K: Keeper> AccountState<K> {
         ensures opened { Opened self.old self.new }
         ensures enters { Enters caller call result self.old.history self.new.history }
         ensures reply { IfOk result (λ given. OfAccount self.old (λ account. given ≡ reply_of self.old.setup.roots account call)) }
+        ensures form { IfOk result (HasForm self.old.setup.roots self.old.setup.mailboxes call) }
         ensures ledgers { ServesLedgers call result self.old self.new }
         ensures rows { Changes (OnFiles (λ files files'. ServesRows self.old.epoch call bytes.now result files.rows files'.rows)) self.old.told self.new.told }
         ensures cause { result ≡ Err StepError.Store → Rose self.old.faults self.new.faults }
@@ -212,6 +214,7 @@ impl<K: Keeper> AccountState<K> {
         requires room { length self.old.history < self.old.setup.journal }
         requires held { length self.old.history < self.old.reserved }
         ensures serves { Serves caller call bytes.now result self.old self.new }
+        ensures form { IfOk result (HasForm self.old.setup.roots self.old.setup.mailboxes call) }
         ensures lists { ListsFor call self.old.lists self.new.lists }
         ensures never_full { (limit : ℕ) → result ≢ Err (StepError.JournalFull limit) }
     {
@@ -246,6 +249,7 @@ impl<K: Keeper> AccountState<K> {
         requires room { length self.old.history < self.old.setup.journal }
         requires held { length self.old.history < self.old.reserved }
         ensures serves { Serves caller call bytes.now result self.old self.new }
+        ensures form { IfOk result (HasForm self.old.setup.roots self.old.setup.mailboxes call) }
         ensures lists { ListsFor call self.old.lists self.new.lists }
         ensures never_full { (limit : ℕ) → result ≢ Err (StepError.JournalFull limit) }
     {
@@ -309,6 +313,7 @@ impl<K: Keeper> AccountState<K> {
         ensures history { self.new.history ≡ self.old.history }
         ensures reserved { self.new.reserved ≡ self.old.reserved }
         ensures reply { IfOk result (λ given. OfAccount self.old (λ account. given ≡ reply_of self.old.setup.roots account call.now)) }
+        ensures form { IfOk result (HasForm self.old.setup.roots self.old.setup.mailboxes call.now) }
         ensures settled { OnOk result ((root : ℕ) → needs self.old.setup.roots call.now root ≡ true → standing_at self.new.standings root ≡ Settled) }
         ensures settles { SettlesSome (needs self.old.setup.roots call.now) self.old self.new }
         ensures missed { IfOk result (λ given. misses given ≡ true → (root : ℕ) → needs self.old.setup.roots call.now root ≡ false) }
@@ -397,7 +402,8 @@ impl<K: Keeper> AccountState<K> {
     /// The rows of the roots that govern the mailbox, which are settled.
     fn rows_of(&self, alloc: Global, mailbox: &[u8]) -> Result<RootRows, AllocError>
         requires { (root : ℕ) → governs_at self.now.setup.roots root mailbox.now ≡ true → standing_at self.now.standings root ≡ Settled }
-        ensures { IfOk result (λ rows. OfAccount self.now (λ account. rows ≡ governing_rows self.now.setup.roots account mailbox.now)) }
+        ensures rows { IfOk result (λ rows. OfAccount self.now (λ account. rows ≡ governing_rows self.now.setup.roots account mailbox.now)) }
+        ensures inside { IfOk result (All (λ row. row.root < length self.now.setup.roots)) }
     {
         rows_of(alloc, &self.setup.roots, &self.limits, &self.books, mailbox)
     }
@@ -411,7 +417,8 @@ impl<K: Keeper> AccountState<K> {
         octets: u64,
     ) -> Result<Verdict, AllocError>
         requires { (root : ℕ) → comes_under self.now.setup.roots (option_map (λ m. m.now) from) to.now root ≡ true → standing_at self.now.standings root ≡ Settled }
-        ensures { IfOk result (λ verdict. OfAccount self.now (λ account. IsVerdict (over_of self.now.setup.roots account (coming self.now.setup.roots (option_map (λ m. m.now) from.entry) to.now) octets) verdict)) }
+        ensures verdict { IfOk result (λ verdict. OfAccount self.now (λ account. IsVerdict (over_of self.now.setup.roots account (coming self.now.setup.roots (option_map (λ m. m.now) from.entry) to.now) octets) verdict)) }
+        ensures inside { IfOk result (IsInside (length self.now.setup.roots)) }
     {
         let totals = totals_of(alloc, &self.books)?;
         are_limits(&self.limits);
@@ -428,6 +435,7 @@ impl<K: Keeper> AccountState<K> {
         ensures history { self.new.history ≡ self.old.history }
         ensures reserved { self.new.reserved ≡ self.old.reserved }
         ensures reply { IfOk result (λ given. OfAccount self.old (λ account. given ≡ reply_of self.old.setup.roots account (Call.Quota name.now))) }
+        ensures form { IfOk result (HasForm self.old.setup.roots self.old.setup.mailboxes (Call.Quota name.now)) }
         ensures settled { OnOk result ((root : ℕ) → is_place (place_of self.old.setup.roots name.now) root ≡ true → standing_at self.new.standings root ≡ Settled) }
         ensures settles { SettlesSome (is_place (place_of self.old.setup.roots name.now)) self.old self.new }
         ensures missed { IfOk result (λ given. misses given ≡ true → (root : ℕ) → is_place (place_of self.old.setup.roots name.now) root ≡ false) }
@@ -454,6 +462,7 @@ impl<K: Keeper> AccountState<K> {
         ensures history { self.new.history ≡ self.old.history }
         ensures reserved { self.new.reserved ≡ self.old.reserved }
         ensures reply { IfOk result (λ given. OfAccount self.old (λ account. given ≡ reply_of self.old.setup.roots account (Call.Roots mailbox.now))) }
+        ensures form { IfOk result (HasForm self.old.setup.roots self.old.setup.mailboxes (Call.Roots mailbox.now)) }
         ensures settled { OnOk result ((root : ℕ) → governs_at self.old.setup.roots root mailbox.now ≡ true → standing_at self.new.standings root ≡ Settled) }
         ensures settles { SettlesSome (λ root. governs_at self.old.setup.roots root mailbox.now) self.old self.new }
         ensures there { IfOk result (λ given. misses given ≡ false) }
@@ -472,6 +481,7 @@ impl<K: Keeper> AccountState<K> {
         ensures history { self.new.history ≡ self.old.history }
         ensures reserved { self.new.reserved ≡ self.old.reserved }
         ensures reply { IfOk result (λ given. OfAccount self.old (λ account. given ≡ reply_of self.old.setup.roots account (Call.Check octets))) }
+        ensures form { IfOk result (HasForm self.old.setup.roots self.old.setup.mailboxes (Call.Check octets)) }
         ensures settled { OnOk result ((root : ℕ) → governs_at self.old.setup.roots root (codes "INBOX") ≡ true → standing_at self.new.standings root ≡ Settled) }
         ensures settles { SettlesSome (λ root. governs_at self.old.setup.roots root (codes "INBOX")) self.old self.new }
         ensures there { IfOk result (λ given. misses given ≡ false) }

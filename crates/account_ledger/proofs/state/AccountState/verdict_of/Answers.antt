@@ -1,4 +1,4 @@
-use Rattle.std.proofs.Common.{◌≡◌, ◌∙◌, ℕ, List, true, ap, sym, subst, rules}
+use Rattle.std.proofs.Common.{◌≡◌, ◌∙◌, ℕ, List, length, true, ap, sym, subst, rules}
 use Rattle.std.specs.List.{All}
 use Rattle.std.specs.Option.{option_map}
 use denote.Ref.{Bor}
@@ -10,11 +10,12 @@ use Rattle.root_ledgers.specs.Settling.{comes_under, coming}
 use Rattle.account_ledger.specs.Rows.{IsVerdict, totals_of}
 use Rattle.account_ledger.specs.States.{State, standing_at}
 use Rattle.account_ledger.proofs.Replying.{of_weaker, verdict_is, first_over_cut}
+use Rattle.account_ledger.proofs.Inside.{verdict_inside}
 use Rattle.account_ledger.proofs.Stating.{over_is}
 use Rattle.account_ledger.proofs.state.AccountState.verdict_of.Goals as goal
 
-pub returns : goal.returns
-returns g c =
+pub returns-clause-verdict : goal.returns-clause-verdict
+returns-clause-verdict g c =
     let s = c.self.inside in
     let from = option_map (λ (m : Bor (List ℕ)). m.now) c.args.from in
     let to = c.args.to.now in
@@ -26,3 +27,8 @@ returns g c =
     (λ account same. verdict_is _ c.admit.result c.admit.ensures.none_over c.admit.ensures.over _
     (rw (c.deref-3.ensures.value, c.deref-4.ensures.value, c.coming-roots.ensures.value, c.in_ok-totals.ensures.value, c.deref.ensures.value)
     (ap (λ o. first_over s.limits.items (totals_of s.books.items) (coming s.setup.roots from to) o) (search rules) ∙ first_over_cut s.limits.items (totals_of s.books.items) (coming s.setup.roots from to) c.args.octets all ∙ same))) _ kept)
+
+pub returns-clause-inside : goal.returns-clause-inside
+returns-clause-inside g c =
+    let s = c.self.inside in
+    rw (← c.self.view_is) (verdict_inside _ _ _ _ (length s.setup.roots) c.coming-roots.ensures.below c.admit.result c.admit.ensures.over)
