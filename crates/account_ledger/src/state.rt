@@ -153,14 +153,14 @@ impl<K: Keeper> AccountState<K> {
         self.books[root as usize].standing
     }
 
-    /// Serves a call of this caller: a delivery, a check, a change of limits, a question on the quota of a root, on the roots of
-    /// a mailbox or on its status, the begin of a scan, or a part of one. The begin of a scan lists no mailbox, and a part lists
-    /// its own alone.
+    /// Serves a call of this caller: a delivery, a check, a removal, new flags, a move, new limits, a question on the quota of a
+    /// root, on the roots of a mailbox or on its status, the begin of a scan, or a part of one. The begin of a scan lists no
+    /// mailbox, and a part lists its own alone.
     ///
     /// `bytes` are the octets of a delivered message, at most 67108864, and empty for the other calls.
     ///
-    /// A delivery that is accepted writes one line into the ledger of each root of its mailbox, or folds the ledger where there
-    /// is no room. Where that fails the call is answered all the same, and that root is in doubt.
+    /// A delivery that is accepted, a removal and a move write one line into the ledger of each settled root whose usage changes,
+    /// or fold the ledger where there is no room. Where that fails the call is answered all the same, and that root is in doubt.
     ///
     /// # Errors
     ///
