@@ -1,5 +1,5 @@
 -- The machine's replies have their form.
-use Rattle.std.proofs.Common.{◌≡◌, ℕ, zero, suc, ◌+◌, ◌<◌, Bool, true, false, cond, List, [], ◌∷◌, length, get_or, map, filter, find, Option, Some, None, arith, refl, sym, ◌∙◌, ap, subst, codes, bytes_eq, is_some}
+use Rattle.std.proofs.Common.{◌≡◌, ℕ, zero, suc, ◌+◌, ◌<◌, Bool, true, false, cond, List, [], ◌∷◌, length, filter, find, Option, Some, None, arith, refl, sym, ◌∙◌, ap, subst, codes, bytes_eq, is_some}
 use Rattle.std.specs.List.{All, filter_map, cons_option, slice_get}
 use Rattle.std.specs.Option.{option_map}
 use Rattle.std.proofs.lemmas.List.Elements.{All-filter, All-map}
@@ -13,12 +13,12 @@ use Rattle.admission.specs.Fitting.{over, first_over, limits_at, totals_at}
 use Rattle.account_core.specs.declared.calls.Call.{Call}
 use Rattle.account_core.specs.declared.calls.Call.TheVariants.{Deliver, Check, Remove, Mark, Move, Quota as QuotaCall, SetLimits, Roots as RootsCall, Status as StatusCall, ScanBegin, ScanPart, Install}
 use Rattle.account_core.specs.declared.calls.Reply.{Reply}
-use Rattle.account_core.specs.declared.calls.Reply.TheVariants.{NoMailbox, Over, Delivered, Fits, NoMessage, Removed, Marked, NameTaken, Moved, NoRoot, Quota, LimitsSet, Roots, Status, Begun, NoPart, Part, Changed, Installed}
+use Rattle.account_core.specs.declared.calls.Reply.TheVariants.{NoMailbox, Over, Delivered, Fits, NoMessage, Removed, Marked, NameTaken, Moved, Changed, Installed}
 use Rattle.account_core.specs.declared.calls.RootRow.{RootRow}
 use Rattle.account_core.specs.Account.{Account, Message}
 use Rattle.account_core.specs.Messages.{named_message}
-use Rattle.account_core.specs.Scanning.{part_of, status_of}
-use Rattle.account_core.specs.Machine.{has_mailbox, in_mailbox, if_message, usages, over_of, over_in, over_or, rows_from, rows, named, quota_reply, limits_reply, governing_rows, moving_reply, placing_reply, reply_of}
+use Rattle.account_core.specs.Scanning.{part_of}
+use Rattle.account_core.specs.Machine.{has_mailbox, if_message, usages, over_of, over_in, over_or, rows_from, rows, named, quota_reply, limits_reply, moving_reply, placing_reply}
 use Rattle.account_core.specs.Forms.{is_answer, HasForm, RepliesHaveForm}
 
 -- the first root that is over is one of those that are looked at

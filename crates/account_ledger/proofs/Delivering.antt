@@ -1,9 +1,8 @@
 -- A delivery: its file is free, and what is kept stands for the account with the message.
-use Rattle.std.proofs.Common.{◌≡◌, ◌≢◌, ℕ, ◌+◌, ◌<◌, ◌≤◌, ◌^◌, Bool, true, false, cond, ◌&&◌, ◌||◌, List, [], ◌∷◌, ◌++◌, length, sum_by, bytes_eq, Option, Some, None, is_some, refl, sym, ap, ◌∙◌, subst, arith, inl, inr}
-use Rattle.std.specs.Prelude.{IfSome, min}
+use Rattle.std.proofs.Common.{◌≡◌, ℕ, ◌+◌, ◌<◌, ◌≤◌, ◌^◌, Bool, true, false, cond, ◌&&◌, ◌||◌, List, [], ◌∷◌, ◌++◌, length, sum_by, bytes_eq, Option, Some, None, is_some, refl, sym, ap, ◌∙◌, subst, arith, inl, inr}
+use Rattle.std.specs.Prelude.{IfSome}
 use Rattle.std.specs.Option.{option_map}
-use Rattle.std.specs.List.{list_any}
-use Rattle.std.proofs.lemmas.Bool.{false≢true, cases_lt}
+use Rattle.std.proofs.lemmas.Bool.{cases_lt}
 use Rattle.std.proofs.lemmas.Slice.Eq.{bytes_eq-Decides}
 use Rattle.std.proofs.lemmas.List.Sums.{sum_by-cons, sum_by_push}
 use Rattle.quota_units.specs.declared.flags.Flags.{Flags}
@@ -11,8 +10,7 @@ use Rattle.quota_units.specs.Limiting.{LimitNumbers}
 use Rattle.quota_units.specs.declared.resource.Resource.{Resource}
 use Rattle.quota_roots.specs.declared.root.RootSpec.{RootSpec}
 use Rattle.quota_roots.specs.declared.setup.Setup.{Setup}
-use Rattle.quota_roots.specs.Setups.{AreMailboxes}
-use Rattle.keeper.specs.Files.{Files, Row, is_named, file_of, has_row, ledger_at, ledger_bytes, bytes_of}
+use Rattle.keeper.specs.Files.{Files, Row, is_named, has_row, ledger_bytes, bytes_of}
 use Rattle.keeper.specs.Calls.{Told, Changes}
 use Rattle.message_names.specs.Sizes.{cut}
 use Rattle.message_names.specs.Messages.{message_of, FileMessage}
@@ -20,7 +18,6 @@ use Rattle.message_names.specs.Parts.{base_of}
 use Rattle.account_core.specs.declared.calls.Call.{Call}
 use Rattle.account_core.specs.declared.calls.Call.TheVariants.{Deliver, Check, Quota, SetLimits, Roots, Remove, Mark, Move, Status, ScanBegin, ScanPart, Install}
 use Rattle.account_core.specs.declared.calls.Entry.{Entry}
-use Rattle.account_core.specs.declared.calls.Reply.{Reply}
 use Rattle.account_core.specs.declared.calls.Reply.TheVariants.{NoMailbox, Over, Delivered, Removed, Marked, NameTaken, Moved}
 use Rattle.account_core.specs.Account.{Account, Message}
 use Rattle.account_core.specs.Delivering.{delivered_base}
@@ -42,7 +39,7 @@ use Rattle.keeper.proofs.Changing.{changes_weaken}
 use Rattle.account_ledger.proofs.Replying.{of_weaker, of_both}
 use Rattle.account_ledger.proofs.Served.{account_moved, account_back}
 use Rattle.account_ledger.proofs.Weighing.{weigh, told_by, is_mailbox_of, rows_weigh}
-use Rattle.account_ledger.proofs.Shifting.{Shifted, RowsShifted, Moves}
+use Rattle.account_ledger.proofs.Shifting.{Shifted, Moves}
 use Rattle.account_ledger.proofs.Ordering.{FilesShifted}
 
 -- no step changes the epoch

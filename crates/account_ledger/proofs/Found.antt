@@ -1,5 +1,5 @@
 -- The named message of the account is told by the file that was found.
-use Rattle.std.proofs.Common.{◌≡◌, ◌≢◌, ℕ, ◌+◌, ◌<◌, ◌≤◌, ◌^◌, Bool, true, false, cond, ◌&&◌, ◌||◌, List, [], ◌∷◌, length, sum_by, bytes_eq, Option, Some, None, refl, sym, ap, ◌∙◌, subst, arith}
+use Rattle.std.proofs.Common.{◌≡◌, ℕ, Bool, true, false, cond, ◌&&◌, ◌||◌, List, [], ◌∷◌, length, sum_by, bytes_eq, Option, Some, None, refl, sym, ap, ◌∙◌, arith}
 use Rattle.std.specs.Prelude.{IfSome}
 use Rattle.std.specs.Option.{option_map}
 use Rattle.std.proofs.lemmas.Bool.{false≢true}
@@ -7,14 +7,12 @@ use Rattle.std.proofs.lemmas.Slice.Eq.{bytes_eq-Decides}
 use Rattle.quota_units.specs.Limiting.{LimitNumbers}
 use Rattle.quota_roots.specs.declared.setup.Setup.{Setup}
 use Rattle.quota_roots.specs.Setups.{are_different}
-use Rattle.keeper.specs.Files.{Files, Row, listed, is_named, has_row, removed, renamed, ledger_at}
+use Rattle.keeper.specs.Files.{Files, Row, listed, is_named, has_row, removed, renamed}
 use Rattle.keeper.specs.Calls.{Told, Changes}
 use Rattle.keeper.specs.declared.rows.FileRow.{FileRow}
 use Rattle.message_names.specs.Parts.{base_of}
 use Rattle.account_core.specs.declared.calls.Entry.{Entry}
 use Rattle.account_core.specs.Account.{Account, Message}
-use Rattle.account_core.specs.Delivering.{delivered_base}
-use Rattle.account_core.specs.Machine.{has_mailbox}
 use Rattle.account_core.specs.Messages.{is_message, named_message, how_many, removed as messages_removed, changed}
 use Rattle.account_core.specs.History.{replay}
 use Rattle.account_core.proofs.MessageSums.{same_named, none_named, removed_sum, changed_sum}
@@ -24,11 +22,9 @@ use Rattle.account_ledger.specs.Messages.{message_in, messages_in}
 use Rattle.account_ledger.specs.NamedFiles.{file_named}
 use Rattle.account_ledger.specs.Opening.{opening_account, opening_of}
 use Rattle.account_ledger.specs.Order.{Holds, InOrder}
-use Rattle.root_ledgers.specs.Settling.{OnFiles}
-use Rattle.keeper.proofs.Changing.{changes_weaken}
 use Rattle.account_ledger.proofs.Weighing.{weigh, is_mailbox_of, rows_weigh}
-use Rattle.account_ledger.proofs.NamedFiles.{named_in, file_has_base, row_there, removed_weighs, renamed_weighs}
-use Rattle.account_ledger.proofs.Shifting.{Shifted, RowsShifted}
+use Rattle.account_ledger.proofs.NamedFiles.{named_in, file_has_base, removed_weighs, renamed_weighs}
+use Rattle.account_ledger.proofs.Shifting.{Shifted}
 use Rattle.account_ledger.proofs.Ordering.{FilesShifted}
 use Rattle.account_ledger.proofs.Delivering.{no_row}
 

@@ -1,12 +1,10 @@
 -- What is kept stays in order.
-use Rattle.std.proofs.Common.{◌≡◌, ℕ, ◌+◌, ◌<◌, ◌≤◌, ◌^◌, Bool, List, [], ◌∷◌, length, Option, Some, refl, sym, ap, ◌∙◌, inl, inr, subst, arith, zero-add, pos}
+use Rattle.std.proofs.Common.{◌≡◌, ℕ, ◌<◌, ◌≤◌, Bool, List, length, Option, sym, ap, ◌∙◌, inl, inr, subst, arith}
 use Rattle.std.specs.List.{All}
 use Rattle.quota_units.specs.Limiting.{LimitNumbers}
-use Rattle.quota_units.specs.declared.totals.Totals.{Totals}
 use Rattle.quota_roots.specs.declared.setup.Setup.{Setup}
 use Rattle.keeper.specs.Files.{Files, ledger_at, ledger_bytes, bytes_of}
 use Rattle.keeper.specs.Calls.{Told, Changes}
-use Rattle.maildirsize.specs.Sums.{Pair, sum_of}
 use Rattle.admission.specs.Fitting.{limits_at}
 use Rattle.account_core.specs.declared.calls.Entry.{Entry}
 use Rattle.account_core.specs.Account.{Account}
@@ -16,8 +14,8 @@ use Rattle.root_ledgers.specs.declared.book.Book.{Book}
 use Rattle.root_ledgers.specs.declared.book.Standing.TheVariants.{Settled}
 use Rattle.account_ledger.specs.Messages.{StandFor}
 use Rattle.root_ledgers.specs.Scans.{AreSmall, scan}
-use Rattle.root_ledgers.specs.Ledgers.{pair_of, folded, IsRight}
-use Rattle.root_ledgers.specs.Settling.{OnFiles, book_at, folded_book, SettlesOrStays, Settling, Marks, IsKept}
+use Rattle.root_ledgers.specs.Ledgers.{IsRight}
+use Rattle.root_ledgers.specs.Settling.{OnFiles, book_at, SettlesOrStays, Settling, Marks, IsKept}
 use Rattle.account_ledger.specs.Opening.{opening_account}
 use Rattle.account_ledger.specs.States.{usage_at}
 use Rattle.root_ledgers.proofs.Kept.{kept_folded}

@@ -1,5 +1,5 @@
 -- From what is kept of roots and their ledgers to what clauses say of lines.
-use Rattle.std.proofs.Common.{◌≡◌, ℕ, ◌+◌, ◌<◌, ◌≤◌, Bool, true, false, List, length, map, sum_by, Option, Some, None, refl, sym, ap, ◌∙◌, subst, arith, inl, inr, zero-add}
+use Rattle.std.proofs.Common.{◌≡◌, ℕ, ◌≤◌, Bool, true, false, List, length, sum_by, Option, Some, None, refl, sym, ap, ◌∙◌, subst, arith, inl, inr}
 use Rattle.std.specs.Prelude.{IfSome}
 use Rattle.std.specs.Option.{option_map}
 use Rattle.std.specs.List.{range_with_len}
@@ -8,7 +8,6 @@ use Rattle.std.proofs.lemmas.Bool.{cases_lt}
 use Rattle.std.proofs.lemmas.List.{length-map, get_or_past}
 use Rattle.quota_units.specs.Limiting.{LimitNumbers}
 use Rattle.quota_units.specs.declared.totals.Totals.{Totals}
-use Rattle.quota_roots.specs.declared.root.RootSpec.{RootSpec}
 use Rattle.quota_roots.specs.declared.setup.Setup.{Setup}
 use Rattle.keeper.specs.Files.{Files, ledger_at}
 use Rattle.keeper.specs.Calls.{Told, Changes}
@@ -22,7 +21,7 @@ use Rattle.root_ledgers.specs.declared.book.Standing.{Standing}
 use Rattle.root_ledgers.specs.declared.book.Standing.TheVariants.{Settled, Doubt}
 use Rattle.root_ledgers.specs.declared.change.Change.{Change}
 use Rattle.root_ledgers.specs.Ledgers.{folded}
-use Rattle.root_ledgers.specs.Lines.{change_at, line_by, totals_by, has_room, LineLedger, fallen_at, changed_book, BookBy, LedgerBy, BookLined, LedgerLined, BooksLined, LedgersLined, fell_below, HasCauses}
+use Rattle.root_ledgers.specs.Lines.{line_by, totals_by, has_room, LineLedger, fallen_at, changed_book, BookBy, LedgerBy, BookLined, LedgerLined, BooksLined, LedgersLined, fell_below, HasCauses}
 use Rattle.account_ledger.specs.Opening.{opening_account, opening_of}
 use Rattle.account_ledger.specs.Order.{Holds, InOrder}
 use Rattle.root_ledgers.specs.Settling.{OnFiles, no_book, book_at, standings_of, lengths_of}

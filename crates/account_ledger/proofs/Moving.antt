@@ -1,5 +1,5 @@
 -- A move to another mailbox: what it is answered, and what it makes of the account.
-use Rattle.std.proofs.Common.{◌≡◌, ◌≢◌, ℕ, ◌+◌, ◌<◌, ◌≤◌, ◌^◌, Bool, true, false, not, cond, ◌&&◌, List, length, sum_by, bytes_eq, Option, Some, None, is_some, refl, sym, ap, ◌∙◌, subst, arith}
+use Rattle.std.proofs.Common.{◌≡◌, ◌≢◌, ℕ, ◌+◌, Bool, true, false, not, cond, ◌&&◌, List, length, bytes_eq, Option, Some, None, refl, sym, ap, ◌∙◌, subst, arith}
 use Rattle.std.specs.Prelude.{IfSome}
 use Rattle.std.specs.Option.{option_map}
 use Rattle.quota_units.specs.Limiting.{LimitNumbers}
@@ -8,13 +8,12 @@ use Rattle.std.proofs.lemmas.Bool.{false≢true}
 use Rattle.quota_roots.specs.Governing.{gains_at, governs_at}
 use Rattle.quota_roots.specs.declared.root.RootSpec.{RootSpec}
 use Rattle.quota_roots.specs.declared.setup.Setup.{Setup}
-use Rattle.keeper.specs.Files.{Files, listed, has_row, renamed}
+use Rattle.keeper.specs.Files.{Files, listed, has_row}
 use Rattle.keeper.specs.Calls.{Told, Changes}
 use Rattle.keeper.specs.declared.rows.FileRow.{FileRow}
 use Rattle.account_core.specs.declared.calls.Call.TheVariants.{Move}
 use Rattle.account_core.specs.declared.calls.Entry.{Entry}
-use Rattle.account_core.specs.declared.calls.Reply.{Reply}
-use Rattle.account_core.specs.declared.calls.Reply.TheVariants.{NoMailbox, NoMessage, NameTaken, Over, Moved}
+use Rattle.account_core.specs.declared.calls.Reply.TheVariants.{NoMailbox, NoMessage, Over, Moved}
 use Rattle.account_core.specs.Account.{Account, Message}
 use Rattle.account_core.specs.Delivering.{delivered_base}
 use Rattle.account_core.specs.History.{replay}
@@ -29,14 +28,12 @@ use Rattle.account_ledger.specs.Messages.{message_in}
 use Rattle.account_ledger.specs.NamedFiles.{IsThere, file_named}
 use Rattle.account_ledger.specs.Opening.{opening_of, opening_account}
 use Rattle.account_ledger.specs.Order.{Holds, InOrder}
-use Rattle.account_ledger.specs.Serving.{OfAccount, RenamesFile}
+use Rattle.account_ledger.specs.Serving.{RenamesFile}
 use Rattle.root_ledgers.specs.Settling.{OnFiles}
-use Rattle.account_ledger.specs.States.{State, account_of}
 use Rattle.account_ledger.proofs.Weighing.{is_mailbox_of}
 use Rattle.account_ledger.proofs.NamedFiles.{file_has_base}
-use Rattle.account_ledger.proofs.Replying.{of_weaker, of_both}
 use Rattle.account_ledger.proofs.Shifting.{Moves}
-use Rattle.account_ledger.proofs.Found.{of_both_told, of_files, none_there, changed_shifted, renamed_same}
+use Rattle.account_ledger.proofs.Found.{of_files, none_there, changed_shifted, renamed_same}
 use Rattle.account_ledger.proofs.Removing.{one_changed, octets_small, not_fresh}
 
 -- answers, by what is there

@@ -1,5 +1,5 @@
 -- The state is in order after a call that moves a message, or brings or removes one.
-use Rattle.std.proofs.Common.{◌≡◌, ℕ, ◌+◌, ◌<◌, ◌≤◌, ◌-◌, ◌^◌, min, false, List, [], ◌∷◌, ◌++◌, length, Option, Some, None, refl, sym, ap, ◌∙◌, subst, arith}
+use Rattle.std.proofs.Common.{◌≡◌, ℕ, ◌+◌, ◌<◌, ◌≤◌, false, List, [], ◌∷◌, ◌++◌, length, Option, Some, None, sym, ◌∙◌, subst, arith}
 use Rattle.std.specs.Prelude.{IfSome}
 use Rattle.std.specs.Option.{option_map}
 use Rattle.std.specs.List.{All}
@@ -10,7 +10,7 @@ use Rattle.keeper.specs.Files.{Files, ledger_at}
 use Rattle.keeper.specs.Calls.{Told, Changes}
 use Rattle.account_core.specs.declared.calls.Call.{Call}
 use Rattle.account_core.specs.declared.calls.Entry.{Entry}
-use Rattle.account_core.specs.Account.{Account, Message}
+use Rattle.account_core.specs.Account.{Message}
 use Rattle.account_core.specs.Machine.{step}
 use Rattle.account_core.specs.History.{replay, entry_of}
 use Rattle.account_core.specs.Legality.{MayBeServed}

@@ -1,10 +1,10 @@
 -- What a call does, from its steps: the roots that it needs are settled, then it does its work, and then it is entered.
-use Rattle.std.proofs.Common.{◌≡◌, ◌≢◌, ℕ, ◌+◌, ◌≤◌, Bool, true, false, List, [], ◌∷◌, ◌++◌, length, Option, Some, None, refl, sym, ap, ◌∙◌, subst, arith, inl, inr, rules}
+use Rattle.std.proofs.Common.{◌≡◌, ◌≢◌, ℕ, ◌≤◌, Bool, true, false, List, [], ◌∷◌, ◌++◌, length, Option, Some, None, refl, sym, ap, ◌∙◌, subst, arith, inl, inr}
 use Rattle.std.specs.Prelude.{Result, Ok, Err, IfOk, IfSome, ◌⊎◌}
 use Rattle.std.proofs.lemmas.List.{ext_get_or}
 use Rattle.keeper.specs.Files.{Files, Row, ledger_at}
 use Rattle.keeper.specs.Calls.{Told, Changes}
-use Rattle.keeper.specs.Causes.{Rose, HasCause}
+use Rattle.keeper.specs.Causes.{Rose}
 use Rattle.account_core.specs.declared.calls.Call.{Call}
 use Rattle.account_core.specs.declared.calls.Call.TheVariants.{Deliver, Check, Quota, SetLimits, Roots, Remove, Mark, Move, Status, ScanBegin, ScanPart, Install}
 use Rattle.account_core.specs.declared.calls.Entry.{Entry}
@@ -18,7 +18,7 @@ use Rattle.root_ledgers.specs.declared.book.Standing.{Standing}
 use Rattle.root_ledgers.specs.declared.book.Standing.TheVariants.{Settled, Doubt}
 use Rattle.root_ledgers.specs.Settling.{OnFiles, MarksOne}
 use Rattle.account_ledger.specs.States.{State, standing_at, account_of}
-use Rattle.account_ledger.specs.Serving.{Opened, Enters, OfAccount, SettlesSome, SettlesLedgers, AreFolded, IsSettledNow, IsQuestion, LedgersStay, StayCalm, SettledFor, ServesLedgers, ServesRows, RowsFor, Serves, WritesBy, WritesFor, misses, needs}
+use Rattle.account_ledger.specs.Serving.{Opened, Enters, OfAccount, SettlesSome, SettlesLedgers, AreFolded, IsSettledNow, IsQuestion, LedgersStay, StayCalm, SettledFor, ServesRows, RowsFor, Serves, WritesBy, WritesFor, misses, needs}
 use Rattle.quota_roots.specs.declared.root.RootSpec.{RootSpec}
 use Rattle.quota_roots.specs.declared.setup.Setup.{Setup}
 use Rattle.account_ledger.proofs.Answering.{same_account}

@@ -1,17 +1,15 @@
 -- A message goes, a message comes, or one takes the place of another: what is kept stands for the account still.
-use Rattle.std.proofs.Common.{◌≡◌, ◌≢◌, ℕ, ◌+◌, ◌*◌, ◌<◌, ◌≤◌, ◌^◌, Bool, true, false, cond, ◌&&◌, List, length, get_or, sum_by, bytes_eq, Option, Some, None, refl, sym, ap, ◌∙◌, subst, arith, inl, inr}
+use Rattle.std.proofs.Common.{◌≡◌, ◌≢◌, ℕ, ◌+◌, ◌*◌, ◌<◌, ◌≤◌, ◌^◌, Bool, true, false, cond, ◌&&◌, List, length, get_or, sum_by, bytes_eq, Option, Some, None, refl, sym, ap, ◌∙◌, subst, arith}
 use Rattle.std.specs.Option.{option_map}
-use Rattle.std.proofs.lemmas.Bool.{false≢true}
 use Rattle.std.proofs.lemmas.Slice.Eq.{bytes_eq-Decides}
 use Rattle.std.proofs.lemmas.List.Sums.{sum_by-le-sum_by}
 use Rattle.quota_units.specs.Limiting.{LimitNumbers}
-use Rattle.quota_units.specs.declared.totals.Totals.{Totals}
 use Rattle.quota_roots.specs.declared.root.RootSpec.{RootSpec}
 use Rattle.quota_roots.specs.declared.setup.Setup.{Setup}
 use Rattle.quota_roots.specs.Setups.{are_different, AreMailboxes}
 use Rattle.quota_roots.specs.Governing.{governs, governs_at}
 use Rattle.quota_roots.proofs.GoverningLemmas.{governs_at_get_or}
-use Rattle.keeper.specs.Files.{Files, Row, ledger_at, ledger_bytes, bytes_of}
+use Rattle.keeper.specs.Files.{Files, Row, ledger_at, ledger_bytes}
 use Rattle.admission.specs.Fitting.{limits_at}
 use Rattle.account_core.specs.Account.{Account, Message, usage}
 use Rattle.account_core.specs.Delivering.{delivered_base}
@@ -21,7 +19,7 @@ use Rattle.root_ledgers.specs.declared.book.Book.{Book}
 use Rattle.root_ledgers.specs.declared.book.Standing.{Standing}
 use Rattle.root_ledgers.specs.declared.book.Standing.TheVariants.{Settled, Doubt}
 use Rattle.root_ledgers.specs.declared.change.Change.{Change}
-use Rattle.account_ledger.specs.Messages.{messages_in, StandFor, AreSame, is_message, how_many}
+use Rattle.account_ledger.specs.Messages.{messages_in, StandFor, is_message, how_many}
 use Rattle.root_ledgers.specs.Settling.{book_at, IsKept}
 use Rattle.account_ledger.specs.States.{usage_at}
 use Rattle.account_ledger.specs.Order.{Holds}

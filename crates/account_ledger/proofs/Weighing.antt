@@ -1,14 +1,14 @@
 -- What the messages of an account's mailboxes add up to, file by file.
-use Rattle.std.proofs.Common.{◌≡◌, ℕ, ◌+◌, Bool, true, false, not, cond, ◌||◌, ◌&&◌, List, [], ◌∷◌, ◌++◌, map, sum_by, bytes_eq, length, filter, zero-add, arith, refl, sym, ap, ◌∙◌}
-use Rattle.std.specs.List.{flat_map, list_any}
-use Rattle.std.proofs.lemmas.List.Sums.{sum_by-append, sum_by-cons, sum_by_push}
+use Rattle.std.proofs.Common.{◌≡◌, ℕ, ◌+◌, Bool, true, false, not, cond, ◌||◌, ◌&&◌, List, [], ◌∷◌, map, sum_by, bytes_eq, filter, zero-add, arith, refl, sym, ap, ◌∙◌}
+use Rattle.std.specs.List.{list_any}
+use Rattle.std.proofs.lemmas.List.Sums.{sum_by-append, sum_by-cons}
 use Rattle.std.proofs.lemmas.Slice.Eq.{bytes_eq-Decides}
 use Rattle.std.proofs.lemmas.Bool.{false≢true}
 use Rattle.quota_roots.specs.Setups.{are_different}
-use Rattle.keeper.specs.Files.{Row, is_in, is_named, file_of, listed, removed, renamed, has_row}
+use Rattle.keeper.specs.Files.{Row, is_in, file_of}
 use Rattle.account_core.specs.Account.{Message}
 use Rattle.account_ledger.specs.Messages.{message_in, messages_of, messages_in}
-use Rattle.root_ledgers.proofs.Sums.{same_sums, sum_map, sum_none}
+use Rattle.root_ledgers.proofs.Sums.{sum_none}
 
 abbrev pub is_mailbox_of : List (List ℕ) → List ℕ → Bool
 is_mailbox_of mailboxes name = list_any (λ mailbox. bytes_eq mailbox name) mailboxes

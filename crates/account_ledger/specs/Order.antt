@@ -2,7 +2,6 @@
 use Rattle.std.specs.Prelude.{◌≡◌, ◌<◌, ◌≤◌, ◌+◌, ◌*◌, ◌-◌, ◌^◌, ℕ, min, List, length, sum_by, IfSome, Option}
 use Rattle.std.specs.List.{All}
 use Rattle.quota_units.specs.Limiting.{LimitNumbers}
-use Rattle.quota_units.specs.declared.totals.Totals.{Totals}
 use Rattle.quota_roots.specs.Setups.{IsSound}
 use Rattle.quota_roots.specs.declared.setup.Setup.{Setup}
 use Rattle.keeper.specs.Files.{Files, ledger_at, ledger_bytes}

@@ -1,5 +1,5 @@
 -- Whether an account may be opened, and why not.
-use Rattle.std.specs.Prelude.{◌≡◌, ◌<◌, ◌≤◌, ◌-◌, ◌^◌, ℕ, min, List, Option, Some, None, Vec, Result, Ok, Err}
+use Rattle.std.specs.Prelude.{◌≡◌, ◌<◌, ◌≤◌, ◌-◌, ◌^◌, ℕ, min, List, Some, None, Vec, Result, Ok, Err}
 use Rattle.std.specs.Option.{option_map}
 use Rattle.quota_units.specs.Limiting.{LimitNumbers}
 use Rattle.quota_roots.specs.declared.setup.Setup.{Setup}

@@ -1,5 +1,5 @@
 -- Lines and the room for them.
-use Rattle.std.proofs.Common.{◌≡◌, ◌≢◌, ℕ, ◌+◌, ◌-◌, ◌≤◌, ◌<◌, Bool, false, List, length, Option, Some, None, arith, ◌∙◌, ap, sym, refl, subst, inl, inr, zero-add}
+use Rattle.std.proofs.Common.{◌≡◌, ◌≢◌, ℕ, ◌+◌, ◌-◌, ◌≤◌, Bool, false, List, length, Option, Some, None, arith, ◌∙◌, ap, sym, refl, subst, inl, inr, zero-add}
 use Rattle.std.specs.Prelude.{IfSome}
 use Rattle.std.proofs.lemmas.Bool.{le-ltb, cases_lt}
 use Rattle.quota_units.specs.Limiting.{LimitNumbers}

@@ -1,7 +1,7 @@
-use Rattle.std.proofs.Common.{◌≡◌, ◌∙◌, ap, sym, true, false, nat_lt, Option, Some, None, List, ℕ}
-use Rattle.std.specs.Option.{option_map, MatchOption}
+use Rattle.std.proofs.Common.{◌≡◌, ◌∙◌, ap, sym, true, false, nat_lt, Option, Some, List, ℕ}
+use Rattle.std.specs.Option.{option_map}
 use Rattle.keeper.specs.declared.rows.FileRow.{FileRow}
-use Rattle.account_opening.specs.Bases.{AreApart, AreNoted, base_in, times_in, shown}
+use Rattle.account_opening.specs.Bases.{AreNoted, base_in, times_in, shown}
 use Rattle.account_opening.proofs.OpeningLemmas.{found_here, passed_here}
 use Rattle.account_opening.proofs.NoteLemmas.{is_twice, none_found}
 use Rattle.account_opening.proofs.bases.double_in.Goals as goal

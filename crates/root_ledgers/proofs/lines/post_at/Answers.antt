@@ -1,4 +1,4 @@
-use Rattle.std.proofs.Common.{◌≡◌, ◌∙◌, None, rules, sym, arith}
+use Rattle.std.proofs.Common.{◌∙◌, None, rules, sym, arith}
 use Rattle.std.proofs.lemmas.List.{get_or_read}
 use Rattle.root_ledgers.specs.Settling.{no_book}
 use Rattle.root_ledgers.proofs.LineLemmas.{lined_here}

@@ -1,10 +1,7 @@
 use Rattle.std.proofs.Common.{true, false}
 use Rattle.std.specs.Option.{option_map}
-use Rattle.keeper.specs.Files.{ledger_at}
 use Rattle.keeper.specs.Calls.{Told}
-use Rattle.admission.specs.Fitting.{limits_at}
-use Rattle.root_ledgers.specs.Lines.{change_at, LedgerLined, LedgersLined}
-use Rattle.root_ledgers.specs.Settling.{OnFiles, book_at}
+use Rattle.root_ledgers.specs.Lines.{change_at}
 use Rattle.keeper.proofs.Changing.{changes_then}
 use Rattle.root_ledgers.proofs.LineLemmas.{books_more, ledgers_more, fell_more, causes_then}
 use Rattle.root_ledgers.proofs.lines.write_lines.Goals as goal

@@ -1,10 +1,9 @@
-use Rattle.std.proofs.Common.{◌≡◌, ◌∙◌, ℕ, List, Option, None, Some, true, false, length, ap, sym, subst, refl, arith, rules, ◌<◌, ◌+◌}
+use Rattle.std.proofs.Common.{◌≡◌, ℕ, List, None, Some, true, false, length, ap, sym, subst, arith, rules, ◌<◌, ◌+◌}
 use Rattle.std.specs.Prelude.{bytes_eq}
 use Rattle.std.specs.List.{list_any}
 use Rattle.keeper.specs.Calls.{Changes}
 use Rattle.account_core.specs.declared.calls.Call.TheVariants.{Deliver}
 use Rattle.account_core.specs.Machine.{has_mailbox, over_in, delivered_message}
-use Rattle.root_ledgers.specs.Settling.{OnFiles}
 use Rattle.account_ledger.specs.States.{State}
 use Rattle.account_ledger.specs.Serving.{OfAccount}
 use Rattle.message_names.specs.Messages.{FileMessage}

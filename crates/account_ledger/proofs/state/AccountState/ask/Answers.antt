@@ -1,4 +1,4 @@
-use Rattle.std.proofs.Common.{◌≡◌, sym, rules}
+use Rattle.std.proofs.Common.{rules}
 use Rattle.account_ledger.specs.Serving.{needs, misses}
 use Rattle.account_ledger.proofs.Served.{noted, question_quiet, question_rows, settled_for}
 use Rattle.account_ledger.proofs.state.AccountState.ask.Goals as goal

@@ -1,4 +1,4 @@
-use Rattle.std.proofs.Common.{◌≡◌, ◌∙◌, ℕ, List, Option, None, Some, true, false, length, ap, sym, subst, refl, arith, rules, ◌<◌, ◌+◌}
+use Rattle.std.proofs.Common.{◌≡◌, ℕ, List, None, Some, true, false, length, sym, subst, refl, arith, rules, ◌<◌}
 use Rattle.std.specs.Prelude.{bytes_eq, IfSome}
 use Rattle.std.specs.List.{list_any}
 use Rattle.keeper.specs.Files.{listed, has_row}

@@ -1,8 +1,7 @@
-use Rattle.std.proofs.Common.{ap, length, subst, ℕ}
+use Rattle.std.proofs.Common.{subst}
 use Rattle.quota_roots.specs.declared.setup.Setup.{Setup}
 use Rattle.account_core.specs.Forms.{HasForm}
 use Rattle.account_core.specs.declared.calls.Call.TheVariants.{Check}
-use Rattle.account_ledger.specs.Rows.{IsInside}
 use Rattle.account_ledger.proofs.Answering.{check_moved}
 use Rattle.account_ledger.proofs.state.AccountState.check.Goals as goal
 

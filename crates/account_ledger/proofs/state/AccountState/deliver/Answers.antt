@@ -1,4 +1,4 @@
-use Rattle.std.proofs.Common.{◌≡◌, ℕ, List, None, Some, true, false, refl, ap, sym, subst, rules}
+use Rattle.std.proofs.Common.{◌≡◌, ℕ, List, None, Some, true, refl, subst, rules}
 use Rattle.quota_roots.specs.Governing.{governs_at}
 use Rattle.admission.specs.declared.verdict.Verdict.{Verdict}
 use Rattle.account_core.specs.Machine.{has_mailbox, over_in}

@@ -1,4 +1,4 @@
-use Rattle.std.proofs.Common.{◌≡◌, List, ℕ, Option, None, true, false, refl, subst, rules, arith}
+use Rattle.std.proofs.Common.{◌≡◌, Option, None, true, refl, subst, rules}
 use Rattle.std.specs.Option.{option_map}
 use Rattle.keeper.specs.declared.rows.FileRow.{FileRow}
 use Rattle.account_ledger.specs.Messages.{message_in}

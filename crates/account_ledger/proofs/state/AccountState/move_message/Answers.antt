@@ -1,25 +1,19 @@
-use Rattle.std.proofs.Common.{◌≡◌, ◌∙◌, ℕ, List, Option, None, Some, true, false, ap, sym, subst, refl, arith, rules}
-use Rattle.std.specs.Prelude.{bytes_eq}
+use Rattle.std.proofs.Common.{◌≡◌, ℕ, List, Option, None, Some, true, sym, subst, refl, rules}
 use Rattle.std.specs.Option.{option_map}
-use Rattle.std.proofs.lemmas.Slice.Eq.{bytes_eq-Decides}
 use Rattle.quota_roots.specs.declared.root.RootSpec.{RootSpec}
-use Rattle.quota_roots.specs.Governing.{gains_at, gaining}
 use Rattle.keeper.specs.declared.rows.FileRow.{FileRow}
-use Rattle.admission.specs.declared.verdict.Verdict.{Verdict}
 use Rattle.account_core.specs.declared.calls.Call.TheVariants.{Move}
-use Rattle.account_core.specs.declared.calls.Reply.TheVariants.{NoMessage, Over, Moved}
+use Rattle.account_core.specs.declared.calls.Reply.TheVariants.{NoMessage}
 use Rattle.account_core.specs.Account.{Account}
-use Rattle.account_core.specs.Legality.{MayMove}
-use Rattle.account_core.specs.Machine.{has_mailbox, over_of, move_reply}
+use Rattle.account_core.specs.Machine.{has_mailbox, move_reply}
 use Rattle.account_core.specs.Messages.{named_message}
 use Rattle.account_ledger.specs.Messages.{message_in}
 use Rattle.account_ledger.specs.NamedFiles.{IsThere}
-use Rattle.account_ledger.specs.Rows.{IsVerdict}
-use Rattle.account_ledger.specs.Serving.{OfAccount, StayCalm, WritesFor}
-use Rattle.account_ledger.specs.States.{State, account_of}
-use Rattle.account_ledger.proofs.Moving.{reply_missing, reply_same, reply_over, same_box_rows}
-use Rattle.account_ledger.proofs.Replying.{of_weaker, of_both}
-use Rattle.account_ledger.proofs.Served.{account_moved, account_back, noted, noted_on, settles_same, settles_still, stay_same, serves_after, serves_then}
+use Rattle.account_ledger.specs.Serving.{OfAccount}
+use Rattle.account_ledger.specs.States.{account_of}
+use Rattle.account_ledger.proofs.Moving.{reply_missing}
+use Rattle.account_ledger.proofs.Replying.{of_both}
+use Rattle.account_ledger.proofs.Served.{account_back, noted, settles_still, serves_after}
 use Rattle.account_ledger.proofs.state.AccountState.move_message.Goals as goal
 
 abbrev Stands : (from base to : List ℕ) → FileRow → List RootSpec → Account → Type 0

@@ -1,26 +1,16 @@
-use Rattle.std.proofs.Common.{◌≡◌, ◌∙◌, ℕ, List, Option, None, Some, true, false, ap, sym, subst, refl, arith, rules}
+use Rattle.std.proofs.Common.{◌≡◌, true, rules}
 use Rattle.std.specs.Prelude.{bytes_eq}
-use Rattle.std.specs.Option.{option_map}
 use Rattle.std.proofs.lemmas.Slice.Eq.{bytes_eq-Decides}
-use Rattle.quota_roots.specs.declared.root.RootSpec.{RootSpec}
-use Rattle.quota_roots.specs.Governing.{gains_at, gaining}
-use Rattle.keeper.specs.declared.rows.FileRow.{FileRow}
-use Rattle.admission.specs.declared.verdict.Verdict.{Verdict}
 use Rattle.account_core.specs.declared.calls.Call.TheVariants.{Move}
-use Rattle.account_core.specs.declared.calls.Reply.TheVariants.{NoMessage, Over, Moved}
-use Rattle.account_core.specs.Account.{Account}
-use Rattle.account_core.specs.Legality.{MayMove}
-use Rattle.account_core.specs.Machine.{has_mailbox, over_of, move_reply}
-use Rattle.account_core.specs.Messages.{named_message}
+use Rattle.account_core.specs.declared.calls.Reply.TheVariants.{Moved}
+use Rattle.account_core.specs.Machine.{move_reply}
 use Rattle.account_ledger.specs.Messages.{message_in}
 use Rattle.account_ledger.specs.NamedFiles.{IsThere}
-use Rattle.account_ledger.specs.Rows.{IsVerdict}
-use Rattle.account_ledger.specs.Serving.{OfAccount, StayCalm, WritesFor}
-use Rattle.account_ledger.specs.States.{State, account_of, standing_at}
+use Rattle.account_ledger.specs.States.{account_of, standing_at}
 use Rattle.root_ledgers.specs.declared.book.Standing.TheVariants.{Settled}
-use Rattle.account_ledger.proofs.Moving.{nothing_gained, reply_missing, reply_same, reply_over, same_box_rows}
-use Rattle.account_ledger.proofs.Replying.{of_weaker, of_both}
-use Rattle.account_ledger.proofs.Served.{account_moved, account_back, noted, noted_on, settles_same, settles_still, stay_same, serves_after, serves_then}
+use Rattle.account_ledger.proofs.Moving.{nothing_gained, reply_same, same_box_rows}
+use Rattle.account_ledger.proofs.Replying.{of_weaker}
+use Rattle.account_ledger.proofs.Served.{noted_on, serves_after}
 use Rattle.account_ledger.proofs.state.AccountState.place.Goals as goal
 
 pub returns-then-eq-clause-serves : goal.returns-then-eq-clause-serves

@@ -1,4 +1,4 @@
-use Rattle.std.proofs.Common.{◌≡◌, List, ℕ, Option, None, true, false, refl, subst, rules, arith}
+use Rattle.std.proofs.Common.{◌≡◌, List, ℕ, Option, None, true, false, refl, subst, rules}
 use Rattle.std.specs.Option.{option_map}
 use Rattle.quota_roots.specs.declared.root.RootSpec.{RootSpec}
 use Rattle.keeper.specs.declared.rows.FileRow.{FileRow}
