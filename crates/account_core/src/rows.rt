@@ -1,7 +1,6 @@
-ghost use Rattle.std.specs.Prelude.{◌≡◌, ◌++◌, [], ◌∷◌, OnOk, OnErr};
+ghost use Rattle.std.specs.Prelude.{◌≡◌};
 
 use crate::RootRow;
-use std::alloc::{AllocError, Global};
 use std::marker::Model;
 
 /// Rows of roots, in the order of the roots.
@@ -20,25 +19,11 @@ impl Model for RootRows {
 }
 
 impl RootRows {
-    /// No rows.
-    pub fn new(alloc: Global) -> RootRows
-        ensures { result ≡ [] }
+    /// The rows of this list. It takes no memory.
+    pub fn of(rows: Vec<RootRow>) -> RootRows
+        ensures { result ≡ rows.items }
     {
-        RootRows {
-            rows: Vec::new(alloc),
-        }
-    }
-
-    /// Appends a row.
-    ///
-    /// # Errors
-    ///
-    /// There was no memory. The rows are as before.
-    pub fn push(&mut self, row: RootRow) -> Result<(), AllocError>
-        ensures ok { OnOk result (self.new ≡ self.old ++ row ∷ []) }
-        ensures err { OnErr result (self.new ≡ self.old) }
-    {
-        Ok(self.rows.push(row)?)
+        RootRows { rows }
     }
 
     /// The rows.

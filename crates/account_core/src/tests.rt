@@ -14,10 +14,7 @@ fn row(root: u32, octets: u64) -> Result<RootRow, Fail> {
 
 #[test]
 fn rows_stand_in_the_order_in_which_they_came(rt: HostRuntime) -> Result<(), Fail> {
-    let mut rows = RootRows::new(rt.alloc());
-    assert!(rt; rows.as_slice().is_empty());
-    rows.push(row(3, 10)?)?;
-    rows.push(row(0, 20)?)?;
+    let rows = RootRows::of(vec![in rt.alloc(); row(3, 10)?, row(0, 20)?]?);
     assert_eq!(rt; rows.as_slice(), [row(3, 10)?, row(0, 20)?].as_slice());
     Ok(())
 }

@@ -36,7 +36,7 @@ use Rattle.root_ledgers.specs.declared.book.Standing.TheVariants.{Settled, Doubt
 use Rattle.account_ledger.specs.States.{State, account_of}
 use Rattle.account_ledger.specs.Serving.{Leaves, OfAccount, Opened}
 use Rattle.keeper.proofs.Changing.{changes_weaken}
-use Rattle.account_ledger.proofs.Replying.{of_weaker, of_both}
+use Rattle.account_ledger.proofs.Replying.{of_both}
 use Rattle.account_ledger.proofs.Served.{account_moved, account_back}
 use Rattle.account_ledger.proofs.Weighing.{weigh, told_by, is_mailbox_of, rows_weigh}
 use Rattle.account_ledger.proofs.Shifting.{Shifted, Moves}
@@ -109,11 +109,6 @@ pub step_delivered : (roots : List RootSpec) (account : Account) (mailbox : List
     ≡ record account { messages = account.messages ++ delivered_message account.epoch (account.deliveries + 1) mailbox octets flags ∷ []; deliveries = account.deliveries + 1; generation = account.generation + 1 }
 step_delivered roots account mailbox octets flags there fits =
     ap (delivered_after account mailbox octets flags) (ap (λ b. cond b (over_or (over_in roots account mailbox octets) (Delivered (account.deliveries + 1))) NoMailbox) there ∙ ap (λ o. over_or o (Delivered (account.deliveries + 1))) fits)
-
-pub reply_delivered : (roots : List RootSpec) (account : Account) (mailbox : List ℕ) (octets number : ℕ) → has_mailbox account mailbox ≡ true → over_in roots account mailbox octets ≡ None → number ≡ account.deliveries + 1
-    → Delivered number ≡ delivery_reply roots account mailbox octets
-reply_delivered roots account mailbox octets number there fits is =
-    ap Delivered is ∙ sym (ap (λ b. cond b (over_or (over_in roots account mailbox octets) (Delivered (account.deliveries + 1))) NoMailbox) there ∙ ap (λ o. over_or o (Delivered (account.deliveries + 1))) fits)
 
 -- after one more delivery
 abbrev pub one_delivered : Counts → Counts
@@ -242,8 +237,12 @@ file_told mailbox name bytes base octets flags reads small =
 abbrev pub RowPut : List ℕ → List ℕ → List ℕ → Told → Told → Type 0
 RowPut mailbox name octets told told' = told'.files ≡ record told.files { rows = told.files.rows ++ record { mailbox = mailbox; name = name; octets = octets } ∷ [] }
 
+-- a name reads as that of the delivery of this number
+abbrev pub ReadsAs : List ℕ → ℕ → ℕ → ℕ → Flags → Type 0
+ReadsAs name epoch number octets flags = (length : ℕ) → message_of name length ≡ record { base = delivered_base epoch number; octets = cut octets; flags = flags }
+
 pub delivery_shifts : (setup : Setup) (epoch number : ℕ) (mailbox name bytes : List ℕ) (octets : ℕ) (flags : Flags) (now mid : Option Told) → is_mailbox_of setup.mailboxes mailbox ≡ true
-    → ((length : ℕ) → message_of name length ≡ record { base = delivered_base epoch number; octets = cut octets; flags = flags }) → octets ≤ 67108864
+    → ReadsAs name epoch number octets flags → octets ≤ 67108864
     → Changes (RowPut mailbox name bytes) now mid → Changes (OnFiles (FilesShifted setup.mailboxes None (Some (delivered_message epoch number mailbox octets flags)))) now mid
 delivery_shifts setup epoch number mailbox name bytes octets flags now mid there reads small put =
     files_put setup mailbox name bytes (delivered_message epoch number mailbox octets flags) now mid there (file_told mailbox name bytes (delivered_base epoch number) octets flags (reads (length bytes)) small) put
@@ -253,16 +252,6 @@ module _ (s : State) (mailbox : List ℕ) (octets : ℕ) (flags : Flags) where
   -- the mailbox is not there
   abbrev pub Nowhere : Account → Type 0
   Nowhere account = false ≡ has_mailbox account mailbox
-
-  pub nowhere_leaves : OfAccount s (λ account. false ≡ has_mailbox account mailbox) → OfAccount s (Leaves s.setup.roots (Deliver mailbox octets flags) false)
-  nowhere_leaves nowhere =
-      of_weaker Nowhere (Leaves s.setup.roots (Deliver mailbox octets flags) false)
-      (λ account e. ap (λ b. delivered_after account mailbox octets flags (cond b (over_or (over_in s.setup.roots account mailbox octets) (Delivered (account.deliveries + 1))) NoMailbox)) (sym e)) (account_of s) nowhere
-
-  pub nowhere_replied : OfAccount s (λ account. false ≡ has_mailbox account mailbox) → OfAccount s (λ account. NoMailbox ≡ delivery_reply s.setup.roots account mailbox octets)
-  nowhere_replied nowhere =
-      of_weaker Nowhere (λ account. NoMailbox ≡ delivery_reply s.setup.roots account mailbox octets)
-      (λ account e. ap (λ b. cond b (over_or (over_in s.setup.roots account mailbox octets) (Delivered (account.deliveries + 1))) NoMailbox) e) (account_of s) nowhere
 
   module _ (m : State) (opened : Opened s m) (same : m.history ≡ s.history) (there : OfAccount s (λ account. true ≡ has_mailbox account mailbox)) where
     there_still : OfAccount m (λ account. true ≡ has_mailbox account mailbox)

@@ -1,5 +1,5 @@
 -- From what is kept of roots and their ledgers to what clauses say of lines.
-use Rattle.std.proofs.Common.{◌≡◌, ℕ, ◌≤◌, Bool, true, false, List, length, sum_by, Option, Some, None, refl, sym, ap, ◌∙◌, subst, arith, inl, inr}
+use Rattle.std.proofs.Common.{◌≡◌, ℕ, ◌<◌, ◌≤◌, Bool, true, false, List, length, sum_by, Option, Some, None, refl, sym, ap, ◌∙◌, subst, arith, inl, inr}
 use Rattle.std.specs.Prelude.{IfSome}
 use Rattle.std.specs.Option.{option_map}
 use Rattle.std.specs.List.{range_with_len}
@@ -9,7 +9,7 @@ use Rattle.std.proofs.lemmas.List.{length-map, get_or_past}
 use Rattle.quota_units.specs.Limiting.{LimitNumbers}
 use Rattle.quota_units.specs.declared.totals.Totals.{Totals}
 use Rattle.quota_roots.specs.declared.setup.Setup.{Setup}
-use Rattle.keeper.specs.Files.{Files, ledger_at}
+use Rattle.keeper.specs.Files.{Files, bytes_of, ledger_at, ledger_bytes}
 use Rattle.keeper.specs.Calls.{Told, Changes}
 use Rattle.admission.specs.Fitting.{limits_at}
 use Rattle.account_core.specs.declared.calls.Entry.{Entry}
@@ -84,51 +84,57 @@ text_swap false line text text1 ledger ledger' Settled same l = l ∙ ap Some (s
 text_swap false line text text1 ledger ledger' Doubt same l = l
 
 ledger_by : (change : Option Change) (octets : ℕ) (limits limits' : LimitNumbers) (usage' : Totals) (book book' : Book) (ledger ledger' : Option (List ℕ)) → limits' ≡ limits
+    → (book.standing ≡ Settled → book.length ≡ length (bytes_of ledger))
     → (book'.standing ≡ Settled → book'.totals ≡ usage') → BookLined change octets limits book book' → LedgerLined change octets limits book book'.standing ledger ledger'
-    → LineAt change octets (folded limits' usage') book.standing book.length ledger book'.standing ledger'
-ledger_by None octets limits limits' usage' book book' ledger ledger' same totals lined line = line
-ledger_by (Some change) octets limits limits' usage' book book' ledger ledger' same totals lined line = by book.standing lined line
+    → LineAt change octets (folded limits' usage') book.standing ledger book'.standing ledger'
+ledger_by None octets limits limits' usage' book book' ledger ledger' same long totals lined line = line
+ledger_by (Some change) octets limits limits' usage' book book' ledger ledger' same long totals lined line = by book.standing refl lined line
   where
-    by : (s : Standing) → BookBy s change octets limits book book' → LedgerBy s change octets limits book book'.standing ledger ledger' → LineAt (Some change) octets (folded limits' usage') s book.length ledger book'.standing ledger'
-    by Doubt lined line = line
-    by Settled lined line =
-        text_swap (has_room book.length (line_by change octets)) (line_by change octets) (folded limits (totals_by change octets book.totals)) (folded limits' usage') ledger ledger' book'.standing
-        (λ room settled. ap (folded limits) (sym (ap (λ (b : Book). b.totals) (lined.0 ∙ ap (changed_book change octets limits book) settled)) ∙ totals settled) ∙ ap (λ l. folded l usage') (sym same)) line
+    by : (s : Standing) → book.standing ≡ s → BookBy s change octets limits book book' → LedgerBy s change octets limits book book'.standing ledger ledger' → LineAt (Some change) octets (folded limits' usage') s ledger book'.standing ledger'
+    by Doubt is lined line = line
+    by Settled is lined line =
+        subst (λ n. LineLedger (has_room n (line_by change octets)) (line_by change octets) (folded limits' usage') ledger book'.standing ledger') (long is)
+        (text_swap (has_room book.length (line_by change octets)) (line_by change octets) (folded limits (totals_by change octets book.totals)) (folded limits' usage') ledger ledger' book'.standing
+        (λ room settled. ap (folded limits) (sym (ap (λ (b : Book). b.totals) (lined.0 ∙ ap (changed_book change octets limits book) settled)) ∙ totals settled) ∙ ap (λ l. folded l usage') (sym same)) line)
 
-line_past : (change : Option Change) (octets : ℕ) (text : List ℕ) (standing standing' : Standing) (long : ℕ) (ledger ledger' : Option (List ℕ)) → standing ≡ Doubt → ledger' ≡ ledger
-    → LineAt change octets text standing long ledger standing' ledger'
-line_past None octets text standing standing' long ledger ledger' doubt same = same
-line_past (Some change) octets text standing standing' long ledger ledger' doubt same = rw doubt same
+line_past : (change : Option Change) (octets : ℕ) (text : List ℕ) (standing standing' : Standing) (ledger ledger' : Option (List ℕ)) → standing ≡ Doubt → ledger' ≡ ledger
+    → LineAt change octets text standing ledger standing' ledger'
+line_past None octets text standing standing' ledger ledger' doubt same = same
+line_past (Some change) octets text standing standing' ledger ledger' doubt same = rw doubt same
 
 module _ (setup : Setup) (changes : ℕ → Option Change) (octets : ℕ) (limits : List LimitNumbers) (books books' : List Book) (lined : BooksLined (length setup.roots) changes octets limits books books') (each : length books ≡ length setup.roots) where
-  one_line : (counts : Counts) (entries : ℕ) (account : Account) (files mid files' : Files) → Holds setup limits books' counts entries account files' → ((root : ℕ) → ledger_at mid root ≡ ledger_at files root)
+  one_line : (counts : Counts) (entries : ℕ) (account : Account) (files mid files' : Files) → ((root : ℕ) → root < length setup.roots → (book_at books root).standing ≡ Settled → (book_at books root).length ≡ length (ledger_bytes files root))
+      → Holds setup limits books' counts entries account files' → ((root : ℕ) → ledger_at mid root ≡ ledger_at files root)
       → LedgersLined (length setup.roots) changes octets limits books books' mid files' → (root : ℕ)
-      → LineAt (changes root) octets (folded (limits_at account.limits root) (usage_at setup.roots root account)) (standing_at (standings_of books) root) (length_at (lengths_of books) root) (ledger_at files root)
+      → LineAt (changes root) octets (folded (limits_at account.limits root) (usage_at setup.roots root account)) (standing_at (standings_of books) root) (ledger_at files root)
       (standing_at (standings_of books') root) (ledger_at files' root)
-  one_line counts entries account files mid files' holds same lines root = elim (cases_lt root (length setup.roots)) [
+  one_line counts entries account files mid files' long holds same lines root = elim (cases_lt root (length setup.roots)) [
     | inl inside ↦
-        rw (standing_of books root, standing_of books' root, length_of books root)
-        (subst (λ l. LineAt (changes root) octets (folded (limits_at account.limits root) (usage_at setup.roots root account)) (book_at books root).standing (book_at books root).length l (book_at books' root).standing (ledger_at files' root)) (same root)
+        rw (standing_of books root, standing_of books' root)
+        (subst (λ l. LineAt (changes root) octets (folded (limits_at account.limits root) (usage_at setup.roots root account)) (book_at books root).standing l (book_at books' root).standing (ledger_at files' root)) (same root)
         (ledger_by (changes root) octets (limits_at limits root) (limits_at account.limits root) (usage_at setup.roots root account) (book_at books root) (book_at books' root) (ledger_at mid root) (ledger_at files' root)
-        (ap (λ ls. limits_at ls root) holds.limits_are) (λ settled. (holds.kept root inside settled).totals) (lined.done root inside) (lines.done root inside)))
+        (ap (λ ls. limits_at ls root) holds.limits_are) (λ settled. long root inside settled ∙ ap (λ l. length (bytes_of l)) (sym (same root))) (λ settled. (holds.kept root inside settled).totals) (lined.done root inside) (lines.done root inside)))
     | inr far ↦
-        line_past (changes root) octets _ _ _ _ _ _ (standing_of books root ∙ ap (λ (b : Book). b.standing) (get_or_past books root no_book (omega (arith, each, far)))) (lines.left root far ∙ same root)
+        line_past (changes root) octets _ _ _ _ _ (standing_of books root ∙ ap (λ (b : Book). b.standing) (get_or_past books root no_book (omega (arith, each, far)))) (lines.left root far ∙ same root)
   ]
 
-  pub line_ledgers : (then now mid now' : Option Told) (faults_then faults : ℕ) (epoch : ℕ) (counts : Counts) (history : List Entry) → InOrder then now' faults_then faults setup epoch limits books' counts history
+  pub line_ledgers : (then now mid now' : Option Told) (faults_then faults0 faults : ℕ) (epoch : ℕ) (counts0 counts : Counts) (history0 history : List Entry) → InOrder then now faults_then faults0 setup epoch limits books counts0 history0
+      → InOrder then now' faults_then faults setup epoch limits books' counts history
       → Changes (OnFiles (λ files files1. (root : ℕ) → ledger_at files1 root ≡ ledger_at files root)) now mid → Changes (OnFiles (LedgersLined (length setup.roots) changes octets limits books books')) mid now'
       → IfSome (option_map (λ opening. replay setup.roots opening history) (opening_of setup epoch then)) (λ account. Changes (OnFiles (λ files files'. (root : ℕ)
-      → LineAt (changes root) octets (folded (limits_at account.limits root) (usage_at setup.roots root account)) (standing_at (standings_of books) root) (length_at (lengths_of books) root) (ledger_at files root)
+      → LineAt (changes root) octets (folded (limits_at account.limits root) (usage_at setup.roots root account)) (standing_at (standings_of books) root) (ledger_at files root)
       (standing_at (standings_of books') root) (ledger_at files' root))) now now')
-  line_ledgers then now mid now' faults_then faults epoch counts history order same lines = by then now mid now' order.held same lines
+  line_ledgers then now mid now' faults_then faults0 faults epoch counts0 counts history0 history order0 order same lines = by then now mid now' order0.held order.held same lines
     where
-      by : (t n m n' : Option Told) → Changes (λ x y. Holds setup limits books' counts (length history) (replay setup.roots (opening_account setup epoch x.files) history) y.files) t n'
+      by : (t n m n' : Option Told) → Changes (λ x y. Holds setup limits books counts0 (length history0) (replay setup.roots (opening_account setup epoch x.files) history0) y.files) t n
+          → Changes (λ x y. Holds setup limits books' counts (length history) (replay setup.roots (opening_account setup epoch x.files) history) y.files) t n'
           → Changes (OnFiles (λ files files1. (root : ℕ) → ledger_at files1 root ≡ ledger_at files root)) n m → Changes (OnFiles (LedgersLined (length setup.roots) changes octets limits books books')) m n'
           → IfSome (option_map (λ opening. replay setup.roots opening history) (opening_of setup epoch t)) (λ account. Changes (OnFiles (λ files files'. (root : ℕ)
-          → LineAt (changes root) octets (folded (limits_at account.limits root) (usage_at setup.roots root account)) (standing_at (standings_of books) root) (length_at (lengths_of books) root) (ledger_at files root)
+          → LineAt (changes root) octets (folded (limits_at account.limits root) (usage_at setup.roots root account)) (standing_at (standings_of books) root) (ledger_at files root)
           (standing_at (standings_of books') root) (ledger_at files' root))) n n')
-      by None n m n' held same lines = tt
-      by (Some t) n m None held same lines = absurd held
-      by (Some t) n None (Some n') held same lines = absurd lines
-      by (Some t) None (Some m) (Some n') held same lines = absurd same
-      by (Some t) (Some n) (Some m) (Some n') held same lines = one_line counts (length history) (replay setup.roots (opening_account setup epoch t.files) history) n.files m.files n'.files held same lines
+      by None n m n' before held same lines = tt
+      by (Some t) n m None before held same lines = absurd held
+      by (Some t) n None (Some n') before held same lines = absurd lines
+      by (Some t) None (Some m) (Some n') before held same lines = absurd same
+      by (Some t) (Some n) (Some m) (Some n') before held same lines =
+          one_line counts (length history) (replay setup.roots (opening_account setup epoch t.files) history) n.files m.files n'.files (λ root inside settled. (before.kept root inside settled).long) held same lines

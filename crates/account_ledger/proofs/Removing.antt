@@ -229,12 +229,6 @@ removal_missing roots account mailbox base none = elim (missing_reply (has_mailb
   | inr is ↦ ap (removed_after account mailbox base) is
 ]
 
-pub mark_missing : (roots : List RootSpec) (account : Account) (mailbox base : List ℕ) (flags : Flags) → named_message mailbox base account.messages ≡ None → Leaves roots (Mark mailbox base flags) false account
-mark_missing roots account mailbox base flags none = elim (missing_reply (has_mailbox account mailbox) (named_message mailbox base account.messages) Marked none) [
-  | inl is ↦ ap (marked_after account mailbox base flags) is
-  | inr is ↦ ap (marked_after account mailbox base flags) is
-]
-
 pub missing_replied : (account : Account) (mailbox base : List ℕ) (given : Reply) → true ≡ has_mailbox account mailbox → named_message mailbox base account.messages ≡ None → NoMessage ≡ message_reply account mailbox base given
 missing_replied account mailbox base given there none =
     sym (ap (λ b. cond b (if_message (named_message mailbox base account.messages) given) NoMailbox) (sym there) ∙ ap (λ o. if_message o given) none)

@@ -1,11 +1,11 @@
 -- What the machine replies, by what is kept of the roots.
-use Rattle.std.proofs.Common.{◌≡◌, ℕ, suc, ◌+◌, ◌<◌, ◌≤◌, ◌↔◌, Bool, true, false, cond, not, nat_lt, nat_le, inl, inr, List, [], ◌∷◌, ◌++◌, length, get_or, map, filter, Option, Some, None, refl, sym, ap, ◌∙◌, arith, add-zero, bytes_eq, find}
+use Rattle.std.proofs.Common.{◌≡◌, ℕ, suc, ◌+◌, ◌<◌, ◌≤◌, ◌↔◌, Bool, true, false, cond, not, nat_lt, nat_le, inl, inr, List, [], ◌∷◌, ◌++◌, length, get_or, take, set, map, filter, Option, Some, None, refl, sym, ap, ◌∙◌, arith, add-zero, bytes_eq, find}
 use Rattle.std.specs.Prelude.{IfSome}
 use Rattle.std.specs.List.{range_with_len, filter_map, cons_option, slice_get, position_or_len, All}
 use Rattle.std.specs.Option.{option_map}
 use Rattle.std.proofs.lemmas.Bool.Decides.{nat_tests}
 use Rattle.std.proofs.lemmas.Bool.{cases_lt}
-use Rattle.std.proofs.lemmas.List.{get_or_past}
+use Rattle.std.proofs.lemmas.List.{get_or_past, map-append, take_more, take_more_set}
 use Rattle.quota_units.specs.Limiting.{LimitNumbers, IsLimit, AreLimits}
 use Rattle.quota_units.specs.declared.resource.Resource.TheVariants.{Storage, Message as MessageCount}
 use Rattle.root_ledgers.specs.Scans.{cut}
@@ -23,7 +23,8 @@ use Rattle.account_core.specs.Machine.{row_of, rows_from, rows, named, quota_rep
 use Rattle.account_core.proofs.Admitting.{totals_at-usages}
 use Rattle.admission.specs.declared.verdict.Verdict.{Verdict}
 use Rattle.admission.specs.declared.verdict.Verdict.TheVariants.{Fits, Over}
-use Rattle.account_ledger.specs.Rows.{IsVerdict}
+use Rattle.account_ledger.specs.Rows.{IsVerdict, totals_of}
+use Rattle.root_ledgers.specs.declared.book.Book.{Book}
 use Rattle.account_ledger.specs.States.{usage_at}
 
 abbrev pub no_root : RootSpec
@@ -194,6 +195,13 @@ pub rows_more : {Y : Type 0} (f : ℕ → Y) (roots : List RootSpec) (mailbox : 
 rows_more f roots mailbox n rows b is so_far =
     ap (λ rs. rs ++ cond b (f n ∷ []) []) so_far ∙ sym (map_more f (governing_below roots mailbox n) n b)
     ∙ ap (λ (c : Bool). map f (governing_below roots mailbox n ++ cond c (n ∷ []) [])) (sym is) ∙ sym (ap (map f) (governing_more roots mailbox n))
+
+-- one more root's totals
+pub totals_more : (books : List Book) (totals : List Totals) (n : ℕ) (d : Book) → n < length totals → n < length books → take n totals ≡ totals_of (take n books)
+    → take (n + 1) (set totals n (get_or books n d).totals) ≡ totals_of (take (n + 1) books)
+totals_more books totals n d inside there so_far =
+    take_more_set totals n (get_or books n d).totals inside ∙ ap (λ ts. ts ++ (get_or books n d).totals ∷ []) so_far
+    ∙ sym (ap totals_of (take_more books n d there) ∙ map-append (λ (b : Book). b.totals) (take n books) (get_or books n d ∷ []))
 
 pub of_weaker : {X : Type 0} (P Q : X → Type 0) → ((x : X) → P x → Q x) → (o : Option X) → IfSome o P → IfSome o Q
 of_weaker P Q weaker None p = tt

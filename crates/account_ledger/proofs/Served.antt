@@ -10,7 +10,7 @@ use Rattle.account_core.specs.declared.calls.Call.TheVariants.{Deliver, Check, Q
 use Rattle.account_core.specs.declared.calls.Entry.{Entry}
 use Rattle.account_core.specs.declared.calls.Reply.{Reply}
 use Rattle.account_core.specs.declared.calls.StepError.{StepError}
-use Rattle.account_core.specs.declared.calls.StepError.TheVariants.{NoMemory, Store}
+use Rattle.account_core.specs.declared.calls.StepError.TheVariants.{Store}
 use Rattle.account_core.specs.Account.{Account}
 use Rattle.account_core.specs.Machine.{reply_of}
 use Rattle.account_core.specs.History.{entry_of}
@@ -18,6 +18,7 @@ use Rattle.root_ledgers.specs.declared.book.Standing.{Standing}
 use Rattle.root_ledgers.specs.declared.book.Standing.TheVariants.{Settled, Doubt}
 use Rattle.root_ledgers.specs.Settling.{OnFiles, MarksOne}
 use Rattle.account_ledger.specs.States.{State, standing_at, account_of}
+use Rattle.account_ledger.specs.Order.{IsInOrder}
 use Rattle.account_ledger.specs.Serving.{Opened, Enters, OfAccount, SettlesSome, SettlesLedgers, AreFolded, IsSettledNow, IsQuestion, LedgersStay, StayCalm, SettledFor, ServesRows, RowsFor, Serves, WritesBy, WritesFor, misses, needs}
 use Rattle.quota_roots.specs.declared.root.RootSpec.{RootSpec}
 use Rattle.quota_roots.specs.declared.setup.Setup.{Setup}
@@ -67,16 +68,16 @@ settles_same may s = record {
         by (Some account) = all account
 
 module _ (caller : ℕ) (call : Call) (bytes : List ℕ) where
-  pub serves_by : (result : Result Reply StepError) (s m s' : State) → SettlesSome (needs s.setup.roots call) s m → Opened s m → s.faults ≤ m.faults → (result ≢ Err Store → m.faults ≡ s.faults)
+  pub serves_by : (result : Result Reply StepError) (s m s' : State) → SettlesSome (needs s.setup.roots call) s m → Opened s m → m.history ≡ s.history → IsInOrder m → s.faults ≤ m.faults → (result ≢ Err Store → m.faults ≡ s.faults)
       → IfOk result (λ given. SettledFor (misses given) (needs s.setup.roots call) s m)
       → Opened m s' → WritesBy call result m s' → Changes (OnFiles (λ files files'. ServesRows s.epoch call bytes result files.rows files'.rows)) m.told s'.told
       → Enters caller call result s.history s'.history → IfOk result (λ given. OfAccount s (λ account. given ≡ reply_of s.setup.roots account call)) → (result ≡ Err Store → Rose s.faults s'.faults)
       → Serves caller call bytes result s s'
-  serves_by result s m s' settles opened later calm settled opened' writes rows enters reply cause = record {
+  serves_by result s m s' settles opened same order later calm settled opened' writes rows enters reply cause = record {
     opened = opened_then s m s' opened opened';
     enters = enters;
     reply = reply;
-    ledgers = record { middle = m; opened = opened; settles = settles; settled = settled; later = later; calm = calm; writes = writes };
+    ledgers = record { middle = m; opened = opened; history = same; order = order; settles = settles; settled = settled; later = later; calm = calm; writes = writes };
     rows = changes_then {X = Told} (OnFiles (SettlesLedgers (needs s.setup.roots call) s.standings m.standings)) (OnFiles (λ files files'. ServesRows s.epoch call bytes result files.rows files'.rows))
         (OnFiles (λ files files'. ServesRows s.epoch call bytes result files.rows files'.rows))
         (λ (x y z : Told) first next. subst (λ rows. ServesRows s.epoch call bytes result rows z.files.rows) first.rows next) s.told m.told s'.told settles.files rows;
@@ -85,37 +86,21 @@ module _ (caller : ℕ) (call : Call) (bytes : List ℕ) where
 
   -- it is replied to, and entered, with nothing else done
   pub noted : (given : Reply) (s m s' : State) → ((n n' : State) → StayCalm n n' → WritesFor call given n n') → ((epoch : ℕ) (rows : List Row) → RowsFor epoch call bytes given rows rows)
-      → SettlesSome (needs s.setup.roots call) s m → Opened s m → m.history ≡ s.history → m.faults ≡ s.faults → SettledFor (misses given) (needs s.setup.roots call) s m
+      → SettlesSome (needs s.setup.roots call) s m → Opened s m → m.history ≡ s.history → IsInOrder m → m.faults ≡ s.faults → SettledFor (misses given) (needs s.setup.roots call) s m
       → OfAccount s (λ account. given ≡ reply_of s.setup.roots account call) → s' ≡ record m { history = m.history ++ entry_of caller call false ∷ [] }
       → Serves caller call bytes (Ok given) s s'
-  noted given s m s' quiet rows settles opened same calm settled reply is =
-      serves_by (Ok given) s m s' settles opened (omega (arith, calm)) (λ not. calm) settled
+  noted given s m s' quiet rows settles opened same order calm settled reply is =
+      serves_by (Ok given) s m s' settles opened same order (omega (arith, calm)) (λ not. calm) settled
       (rw is (opened_noted m m _ (opened_same m))) (quiet m s' (rw is (stay_noted m m _ (stay_same m), refl))) (rw is (changes_same _ (λ x. rows s.epoch x.files.rows) m.told))
       (rw (is, same) refl) reply (λ not. absurd (cc))
 
   pub noted_on : (given : Reply) (s s' : State) → ((n n' : State) → StayCalm n n' → WritesFor call given n n') → Changes (OnFiles (λ files files'. RowsFor s.epoch call bytes given files.rows files'.rows)) s.told s.told
-      → SettledFor (misses given) (needs s.setup.roots call) s s → OfAccount s (λ account. given ≡ reply_of s.setup.roots account call) → s' ≡ record s { history = s.history ++ entry_of caller call false ∷ [] }
+      → IsInOrder s → SettledFor (misses given) (needs s.setup.roots call) s s → OfAccount s (λ account. given ≡ reply_of s.setup.roots account call) → s' ≡ record s { history = s.history ++ entry_of caller call false ∷ [] }
       → Serves caller call bytes (Ok given) s s'
-  noted_on given s s' quiet rows settled reply is =
-      serves_by (Ok given) s s s' (settles_same (needs s.setup.roots call) s) (opened_same s) (omega arith) (λ not. refl) settled
+  noted_on given s s' quiet rows order settled reply is =
+      serves_by (Ok given) s s s' (settles_same (needs s.setup.roots call) s) (opened_same s) refl order (omega arith) (λ not. refl) settled
       (rw is (opened_noted s s _ (opened_same s))) (quiet s s' (rw is (stay_noted s s _ (stay_same s), refl))) (rw is rows)
       (rw is refl) reply (λ not. absurd (cc))
-
-  -- the store failed
-  pub faulted : (s m n s' : State) → SettlesSome (needs s.setup.roots call) s m → Opened s m → s.faults ≤ m.faults
-      → Opened m n → n.history ≡ s.history → LedgersStay m n → Changes (OnFiles (λ files files'. files'.rows ≡ files.rows)) m.told n.told → Rose s.faults n.faults
-      → s' ≡ record n { history = n.history ++ entry_of caller call true ∷ [] }
-      → Serves caller call bytes (Err Store) s s'
-  faulted s m n s' settles opened later opened' same stay rows rose is =
-      serves_by (Err Store) s m s' settles opened later (λ not. absurd (not refl)) tt
-      (rw is (opened_noted m n _ opened')) (rw is (stay_noted m n _ stay)) (rw is rows) (rw (is, same) refl) tt (λ store. rw is rose)
-
-  -- there was no memory
-  pub forgone : (s m s' : State) → SettlesSome (needs s.setup.roots call) s m → Opened s m → m.faults ≡ s.faults
-      → Opened m s' → s'.history ≡ s.history → StayCalm m s' → Changes (OnFiles (λ files files'. files'.rows ≡ files.rows)) m.told s'.told
-      → Serves caller call bytes (Err NoMemory) s s'
-  forgone s m s' settles opened calm opened' same stay rows =
-      serves_by (Err NoMemory) s m s' settles opened (omega (arith, calm)) (λ not. calm) tt opened' stay rows same tt (λ not. absurd (cc))
 
 -- the steps begin where memory for the entry is held
 module _ (s : State) (reserved : ℕ) where
@@ -137,6 +122,8 @@ module _ (s : State) (reserved : ℕ) where
         ledgers = record {
           middle = l.middle;
           opened = record { setup = l.opened.setup; epoch = l.opened.epoch; opening = l.opened.opening; first_faults = l.opened.first_faults };
+          history = l.history;
+          order = l.order;
           settles = record { files = l.settles.files; texts = l.settles.texts; count = l.settles.count; each = l.settles.each; appends = l.settles.appends };
           settled = settled_all result (needs s.setup.roots call) l.middle l.settled;
           later = l.later;
@@ -213,13 +200,13 @@ reply_moved (Err e) call s m opened same reply = tt
 enters_moved : (caller : ℕ) (call : Call) (result : Result Reply StepError) (history history1 history' : List Entry) → history1 ≡ history → Enters caller call result history1 history' → Enters caller call result history history'
 enters_moved caller call result history history1 history' same enters = subst (λ h. Enters caller call result h history') same enters
 
-pub serves_then : (caller : ℕ) (call : Call) (bytes : List ℕ) (result : Result Reply StepError) (s m s' : State) → SettlesSome (needs s.setup.roots call) s m → Opened s m → m.history ≡ s.history → m.faults ≡ s.faults
+pub serves_then : (caller : ℕ) (call : Call) (bytes : List ℕ) (result : Result Reply StepError) (s m s' : State) → SettlesSome (needs s.setup.roots call) s m → Opened s m → m.history ≡ s.history → IsInOrder m → m.faults ≡ s.faults
     → ((root : ℕ) → needs s.setup.roots call root ≡ true → standing_at m.standings root ≡ Settled)
     → Opened m s' → Enters caller call result m.history s'.history → IfOk result (λ given. OfAccount m (λ account. given ≡ reply_of m.setup.roots account call)) → WritesBy call result m s'
     → Changes (OnFiles (λ files files'. ServesRows m.epoch call bytes result files.rows files'.rows)) m.told s'.told → IfOk result (λ given. misses given ≡ false) → (result ≡ Err Store → Rose m.faults s'.faults)
     → Serves caller call bytes result s s'
-serves_then caller call bytes result s m s' settles opened same calm all opened' enters reply writes rows there cause =
-    serves_by caller call bytes result s m s' settles opened (omega (arith, calm)) (λ not. calm) (settled_ok result (needs s.setup.roots call) s m there all)
+serves_then caller call bytes result s m s' settles opened same order calm all opened' enters reply writes rows there cause =
+    serves_by caller call bytes result s m s' settles opened same order (omega (arith, calm)) (λ not. calm) (settled_ok result (needs s.setup.roots call) s m there all)
     opened' writes (subst (λ e. Changes (OnFiles (λ files files'. ServesRows e call bytes result files.rows files'.rows)) m.told s'.told) opened.epoch rows)
     (enters_moved caller call result s.history m.history s'.history same enters) (reply_moved result call s m opened same reply) (λ store. subst (λ f. Rose f s'.faults) calm (cause store))
 
@@ -308,6 +295,8 @@ module _ (s n : State) (opened : Opened s n) (same : n.history ≡ s.history) (c
         ledgers = record {
           middle = l.middle;
           opened = opened_then s n l.middle opened l.opened;
+          history = l.history ∙ same;
+          order = l.order;
           settles = subst (λ (may : ℕ → Bool). SettlesSome may s l.middle) (ap (λ roots. needs roots call) (ap (λ (u : Setup). u.roots) opened.setup)) (settles_after (needs n.setup.roots call) l.middle l.settles);
           settled = subst (λ (may : ℕ → Bool). IfOk result (λ given. SettledFor (misses given) may s l.middle)) (ap (λ roots. needs roots call) (ap (λ (u : Setup). u.roots) opened.setup)) (settled_then result (needs n.setup.roots call) l.middle l.settled);
           later = omega (arith, l.later, calm);

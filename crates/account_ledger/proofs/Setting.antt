@@ -14,7 +14,8 @@ use Rattle.root_ledgers.specs.declared.book.Standing.TheVariants.{Settled, Doubt
 use Rattle.root_ledgers.specs.Settling.{OnFiles}
 use Rattle.account_ledger.specs.Serving.{Opened, OfAccount, SettlesSome, SettlesLedgers, AreFolded, LedgersStay, Serves, needs}
 use Rattle.account_ledger.specs.States.{State, account_of}
-use Rattle.keeper.proofs.Changing.{changes_then, changes_weaken, changes_same}
+use Rattle.account_ledger.specs.Order.{IsInOrder}
+use Rattle.keeper.proofs.Changing.{changes_same}
 use Rattle.account_ledger.proofs.Replying.{of_weaker, limits_none}
 
 abbrev pub SameRows : Told → Told → Type 0
@@ -28,13 +29,6 @@ opened_same s = record { setup = refl; epoch = refl; opening = refl; first_fault
 
 pub opened_then : (s m n : State) → Opened s m → Opened m n → Opened s n
 opened_then s m n a b = record { setup = b.setup ∙ a.setup; epoch = b.epoch ∙ a.epoch; opening = b.opening ∙ a.opening; first_faults = b.first_faults ∙ a.first_faults }
-
--- what settles keeps the files
-pub settles_rows : (may : ℕ → Bool) (s m : State) → SettlesSome may s m → Changes SameRows s.told m.told
-settles_rows may s m settles = changes_weaken (OnFiles (SettlesLedgers may s.standings m.standings)) SameRows (λ x y ledgers. ledgers.rows) s.told m.told settles.files
-
-pub rows_then : (a b c : Option Told) → Changes SameRows a b → Changes SameRows b c → Changes SameRows a c
-rows_then = changes_then SameRows SameRows SameRows (λ x y z e f. f ∙ e)
 
 -- nothing is settled
 none_folded : (s : State) (account : Account) → Changes (OnFiles (AreFolded s.setup.roots account s.standings s.standings)) s.told s.told
@@ -74,15 +68,17 @@ module _ (caller : ℕ) (name : List ℕ) (limits : LimitNumbers) (s : State) wh
   call = SetLimits name limits
 
   -- no root has the name
-  pub serves_missed : place_of s.setup.roots name ≡ None → OfAccount s (λ account. length account.limits ≡ length s.setup.roots)
+  pub serves_missed : IsInOrder s → place_of s.setup.roots name ≡ None → OfAccount s (λ account. length account.limits ≡ length s.setup.roots)
       → Serves caller call [] (Ok NoRoot) s (entered s caller call false)
-  serves_missed nowhere each = record {
+  serves_missed order nowhere each = record {
     opened = opened_entered s caller call false;
     enters = refl;
     reply = of_weaker _ _ (λ account same. limits_none account name s.setup.roots same limits nowhere) (account_of s) each;
     ledgers = record {
       middle = s;
       opened = opened_same s;
+      history = refl;
+      order = order;
       settles = settles_nothing (needs s.setup.roots call) s;
       settled = (ledgers_stay s s refl refl refl, refl);
       later = omega arith;

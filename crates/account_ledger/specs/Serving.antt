@@ -19,7 +19,7 @@ use Rattle.account_core.specs.declared.calls.StepError.{StepError}
 use Rattle.account_core.specs.declared.calls.StepError.TheVariants.{NoMemory, Store, JournalFull}
 use Rattle.account_core.specs.Machine.{step, reply_of}
 use Rattle.account_core.specs.History.{entry_of}
-use Rattle.keeper.specs.Files.{Files, Row, listed, removed, renamed, ledger_at}
+use Rattle.keeper.specs.Files.{Files, Row, listed, removed, renamed, ledger_at, bytes_of}
 use Rattle.keeper.specs.declared.rows.FileRow.{FileRow}
 use Rattle.keeper.specs.Calls.{Changes, Writes}
 use Rattle.keeper.specs.Causes.{Rose, next_count}
@@ -32,6 +32,7 @@ use Rattle.account_ledger.specs.NamedFiles.{file_named}
 use Rattle.root_ledgers.specs.Ledgers.{folded}
 use Rattle.root_ledgers.specs.Lines.{change_at, line_by, has_room, LineLedger, fallen_at, HasCauses}
 use Rattle.account_ledger.specs.States.{State, standing_at, length_at, usage_at, account_of}
+use Rattle.account_ledger.specs.Order.{IsInOrder}
 
 -- what was opened stays
 pub record Opened (s s' : State) : Type 0 where
@@ -159,12 +160,12 @@ LineStanding None standing standing' = standing' ≡ standing
 LineStanding (Some change) Doubt standing' = standing' ≡ Doubt
 LineStanding (Some change) Settled standing' = Unit {0}
 
--- how the ledger of a root changes: a settled root whose usage changes gets its line, and no other
-abbrev pub LineAt : Option Change → ℕ → List ℕ → Standing → ℕ → Option (List ℕ) → Standing → Option (List ℕ) → Type 0
-LineAt None octets text standing long ledger standing' ledger' = ledger' ≡ ledger
-LineAt (Some change) octets text Doubt long ledger standing' ledger' = ledger' ≡ ledger
-LineAt (Some change) octets text Settled long ledger standing' ledger' =
-    LineLedger (has_room long (line_by change octets)) (line_by change octets) text ledger standing' ledger'
+-- how the ledger of a root changes: a settled root whose usage changes gets its line, where the ledger has room for it, and no other
+abbrev pub LineAt : Option Change → ℕ → List ℕ → Standing → Option (List ℕ) → Standing → Option (List ℕ) → Type 0
+LineAt None octets text standing ledger standing' ledger' = ledger' ≡ ledger
+LineAt (Some change) octets text Doubt ledger standing' ledger' = ledger' ≡ ledger
+LineAt (Some change) octets text Settled ledger standing' ledger' =
+    LineLedger (has_room (length (bytes_of ledger)) (line_by change octets)) (line_by change octets) text ledger standing' ledger'
 
 -- how many settled roots fell into doubt, where there was such room for their line
 abbrev pub how_many_fell : Bool → Option (List ℕ) → Option (List ℕ) → ℕ → State → State → ℕ
@@ -179,7 +180,7 @@ pub record WritesLines (from to : Option (List ℕ)) (octets : ℕ) (s s' : Stat
   pub standings : (root : ℕ) → LineStanding (change_at s.setup.roots from to root) (standing_at s.standings root) (standing_at s'.standings root)
   pub ledgers : OfAccount s' (λ account. Changes (OnFiles (λ files files'. (root : ℕ)
       → LineAt (change_at s.setup.roots from to root) octets (folded (limits_at account.limits root) (usage_at s.setup.roots root account))
-      (standing_at s.standings root) (length_at s.lengths root) (ledger_at files root) (standing_at s'.standings root) (ledger_at files' root))) s.told s'.told)
+      (standing_at s.standings root) (ledger_at files root) (standing_at s'.standings root) (ledger_at files' root))) s.told s'.told)
   pub faults : HasCauses (how_many_fell false from to octets s s') s.faults s'.faults
   pub appends : HasCauses (how_many_fell true from to octets s s') s.append_faults s'.append_faults
 
@@ -199,6 +200,12 @@ pub record WritesMove (mailbox base : List ℕ) (from to : Option (List ℕ)) (s
   pub octets : ℕ
   pub named : OfAccount s (HasNamed mailbox base octets)
   pub lines : WritesLines from to octets s s'
+
+-- a call that puts or renames a file behind the roots that it settles, where the keeper may find no memory yet
+abbrev pub is_filing : Call → Bool
+is_filing (Deliver mailbox octets flags) = true
+is_filing (Move from base to) = true
+is_filing call = false
 
 -- what a call that was replied to writes into ledgers, when the roots that it needs are settled
 abbrev pub WritesFor : Call → Reply → State → State → Type 0
@@ -241,9 +248,11 @@ SettledFor false may s s' = (root : ℕ) → may root ≡ true → standing_at s
 -- What a call does to the ledgers and the standings of roots: those that it needs and that are in doubt are settled, and then
 -- lines or limits are written.
 pub record ServesLedgers (call : Call) (result : Result Reply StepError) (s s' : State) : Type 0 where
-  -- the state in between
+  -- the state in between, which is in order
   pub middle : State
   pub opened : Opened s middle
+  pub history : middle.history ≡ s.history
+  pub order : IsInOrder middle
   pub settles : SettlesSome (needs s.setup.roots call) s middle
   pub settled : IfOk result (λ given. SettledFor (misses given) (needs s.setup.roots call) s middle)
   pub later : s.faults ≤ middle.faults

@@ -31,6 +31,8 @@ pub record State : Type 0 where
   -- the entries since, and for how many entries memory is held
   pub history : List Entry
   pub reserved : ℕ
+  -- how many deliveries were accepted since
+  pub delivered : ℕ
   -- of each root; and the length of the ledger of each that is settled, in bytes
   pub standings : List Standing
   pub lengths : List ℕ

@@ -13,6 +13,7 @@ ghost use Rattle.account_core.specs.Machine.{has_mailbox, over_in, over_of, repl
 ghost use Rattle.account_core.specs.Forms.{HasForm};
 ghost use Rattle.account_core.specs.Legality.{MayBeServed, fault_count};
 ghost use Rattle.root_ledgers.specs.declared.book.Standing.TheVariants.{Settled};
+ghost use Rattle.account_ledger.specs.Order.{IsInOrder};
 ghost use Rattle.account_ledger.specs.Rows.{IsInside, IsVerdict};
 ghost use Rattle.account_ledger.specs.Serving.{Enters, Leaves, LedgersStay, SettlesSome, ServesRows, WritesBy, misses, OfAccount, Opened, Serves, StayCalm, WritesLines};
 ghost use Rattle.root_ledgers.specs.Settling.{OnFiles, comes_under, coming};
@@ -84,6 +85,16 @@ impl<K: Keeper> AccountState<K> {
         fault
     }
 
+    /// The file name of the next delivery.
+    fn next_name(&self, alloc: Global, octets: u64, flags: Flags) -> Result<Vec<u8>, AllocError>
+        requires { length self.now.history < self.now.setup.journal }
+        ensures name { IfOk result (λ name. name.items ≡ written_name (delivered_base self.now.epoch (self.now.delivered + 1)) octets flags) }
+        ensures reads_back { IfOk result (λ name. (length : ℕ)
+            → message_of name.items length ≡ record { base = delivered_base self.now.epoch (self.now.delivered + 1); octets = cut octets; flags = flags }) }
+    {
+        message_name(alloc, self.epoch, self.counts.deliveries + 1, octets, flags)
+    }
+
     /// Serves a delivery of this caller: a message of so many octets, with these flags, for the mailbox of this name.
     ///
     /// # Errors
@@ -117,8 +128,9 @@ impl<K: Keeper> AccountState<K> {
             self.note(caller, call, false);
             return Ok(Reply::NoMailbox);
         }
+        let name = self.next_name(alloc, octets, flags)?;
         match self.fits(alloc, None, mailbox.as_slice(), octets) {
-            Ok(Verdict::Fits) => self.accept(alloc, caller, mailbox, octets, flags, bytes),
+            Ok(Verdict::Fits) => self.accept(alloc, caller, mailbox, octets, flags, name, bytes),
             Ok(Verdict::Over { root, resource }) => {
                 let call = Call::Deliver {
                     mailbox,
@@ -151,18 +163,20 @@ impl<K: Keeper> AccountState<K> {
         ensures opened { Opened self.old self.new }
         ensures history { self.new.history ≡ self.old.history }
         ensures reserved { self.new.reserved ≡ self.old.reserved }
+        ensures delivered { self.new.delivered ≡ self.old.delivered }
         ensures settled { OnOk result ((root : ℕ) → comes_under self.old.setup.roots (option_map (λ m. m.now) from.entry) to.now root ≡ true → standing_at self.new.standings root ≡ Settled) }
         ensures settles { SettlesSome (comes_under self.old.setup.roots (option_map (λ m. m.now) from.entry) to.now) self.old self.new }
         ensures verdict { IfOk result (λ verdict. OfAccount self.new (λ account. IsVerdict (over_of self.new.setup.roots account (coming self.new.setup.roots (option_map (λ m. m.now) from.entry) to.now) octets) verdict)) }
         ensures inside { IfOk result (IsInside (length self.old.setup.roots)) }
+        ensures order { IsInOrder self.new }
         ensures cause { HasCause (result ≡ Err StepError.Store) self.old.faults self.new.faults }
         ensures never_full { (limit : ℕ) → result ≢ Err (StepError.JournalFull limit) }
     {
         self.settle_coming(alloc, from, to)?;
-        Ok(self.verdict_of(alloc, from, to, octets)?)
+        Ok(self.verdict_of(from, to, octets))
     }
 
-    /// Puts an accepted message into its mailbox, writes its lines, and enters the call.
+    /// Puts an accepted message into its mailbox under its name, writes its lines, and enters the call.
     fn accept(
         &mut self,
         alloc: Global,
@@ -170,10 +184,13 @@ impl<K: Keeper> AccountState<K> {
         mailbox: Name,
         octets: u64,
         flags: Flags,
+        name: Vec<u8>,
         bytes: &[u8],
     ) -> Result<Reply, StepError>
         requires bytes { octets ≡ length bytes.now }
         requires most { octets ≤ 67108864 }
+        requires name { name.items ≡ written_name (delivered_base self.old.epoch (self.old.delivered + 1)) octets flags }
+        requires reads_back { (length : ℕ) → message_of name.items length ≡ record { base = delivered_base self.old.epoch (self.old.delivered + 1); octets = cut octets; flags = flags } }
         requires room { length self.old.history < self.old.setup.journal }
         requires held { length self.old.history < self.old.reserved }
         requires there { list_any (λ name. bytes_eq name mailbox) self.old.setup.mailboxes ≡ true }
@@ -189,7 +206,6 @@ impl<K: Keeper> AccountState<K> {
         ensures never_full { (limit : ℕ) → result ≢ Err (StepError.JournalFull limit) }
     {
         let number = self.counts.deliveries + 1;
-        let name = message_name(alloc, self.epoch, number, octets, flags)?;
         if let Err(fault) = self.keeper.put(alloc, mailbox.as_slice(), &name, bytes) {
             let call = Call::Deliver {
                 mailbox,

@@ -7,7 +7,7 @@ ghost use Rattle.account_core.specs.History.{entry_of};
 ghost use Rattle.account_core.specs.Machine.{reply_of};
 ghost use Rattle.account_core.specs.Forms.{HasForm};
 ghost use Rattle.root_ledgers.specs.declared.book.Standing.TheVariants.{Settled};
-ghost use Rattle.account_ledger.specs.Serving.{InstallsLimits, LedgersStay, OfAccount, Opened, Serves};
+ghost use Rattle.account_ledger.specs.Serving.{InstallsLimits, LedgersStay, OfAccount, Opened, Serves, StayCalm};
 ghost use Rattle.root_ledgers.specs.Settling.{OnFiles};
 ghost use Rattle.account_ledger.specs.States.{standing_at};
 
@@ -38,13 +38,16 @@ impl<K: Keeper> AccountState<K> {
         requires held { length self.old.history < self.old.reserved }
         ensures serves { Serves caller (Call.SetLimits root limits) [] result self.old self.new }
         ensures form { IfOk result (HasForm self.old.setup.roots self.old.setup.mailboxes (Call.SetLimits root limits)) }
+        ensures spared { result ≡ Err StepError.NoMemory → StayCalm self.old self.new }
         ensures never_full { (limit : ℕ) → result ≢ Err (StepError.JournalFull limit) }
     {
         let Some(place) = self.find_root(root.as_slice()) else {
             return Ok(self.miss_root(caller, root, limits));
         };
         self.is_in_order();
-        match self.usage(alloc, place) {
+        let usage = self.usage(alloc, place);
+        self.is_in_order();
+        match usage {
             Ok(_) => {}
             Err(StepError::Store) => {
                 self.note(caller, Call::SetLimits { root, limits }, true);

@@ -8,6 +8,7 @@ ghost use Rattle.keeper.specs.Files.{listed, has_row};
 ghost use Rattle.keeper.specs.Calls.{Changes, Renames};
 ghost use Rattle.keeper.specs.Causes.{HasCause};
 ghost use Rattle.account_ledger.specs.NamedFiles.{file_named};
+ghost use Rattle.account_ledger.specs.Order.{IsInOrder};
 ghost use Rattle.account_ledger.specs.Serving.{LedgersStay, OfAccount, Opened};
 ghost use Rattle.root_ledgers.specs.Settling.{OnFiles};
 
@@ -43,10 +44,13 @@ impl<K: Keeper> AccountState<K> {
         ensures found { IfOk result (λ found. IfSome self.new.told (λ t. found ≡ file_named base.now (listed mailbox.now t.files.rows))) }
         ensures message { list_any (λ name. bytes_eq name mailbox.now) self.old.setup.mailboxes ≡ true
             → IfOk result (λ found. OfAccount self.old (λ account. named_message mailbox.now base.now account.messages ≡ option_map (message_in mailbox.now) found)) }
+        ensures order { IsInOrder self.new }
         ensures cause { HasCause (result ≡ Err StepError.Store) self.old.faults self.new.faults }
         ensures never_full { (limit : ℕ) → result ≢ Err (StepError.JournalFull limit) }
     {
-        let files = match self.keeper.list(alloc, mailbox.as_slice()) {
+        let listed = self.keeper.list(alloc, mailbox.as_slice());
+        self.is_in_order();
+        let files = match listed {
             Ok(files) => files,
             Err(fault) => return Err(step_error(fault)),
         };

@@ -7,7 +7,7 @@ ghost use Rattle.account_core.specs.Machine.{reply_of};
 ghost use Rattle.account_core.specs.Forms.{HasForm};
 ghost use Rattle.account_ledger.specs.Counting.{TellMailbox, mailbox_at};
 ghost use Rattle.account_ledger.specs.Questions.{Looks};
-ghost use Rattle.account_ledger.specs.Serving.{OfAccount, Opened, SettlesSome};
+ghost use Rattle.account_ledger.specs.Serving.{OfAccount, Opened, SettlesSome, StayCalm};
 
 use crate::AccountState;
 use crate::counting::{sets_of, sums_of};
@@ -69,6 +69,7 @@ impl<K: Keeper> AccountState<K> {
         ensures reply { IfOk result (λ given. OfAccount self.old (λ account. given ≡ reply_of self.old.setup.roots account (Call.Status mailbox.now))) }
         ensures form { IfOk result (HasForm self.old.setup.roots self.old.setup.mailboxes (Call.Status mailbox.now)) }
         ensures settles { SettlesSome (λ root. false) self.old self.new }
+        ensures spared { result ≡ Err StepError.NoMemory → StayCalm self.old self.new }
         ensures cause { HasCause (result ≡ Err StepError.Store) self.old.faults self.new.faults }
         ensures never_full { (limit : ℕ) → result ≢ Err (StepError.JournalFull limit) }
     {
@@ -110,6 +111,7 @@ impl<K: Keeper> AccountState<K> {
         ensures form { IfOk result (HasForm self.old.setup.roots self.old.setup.mailboxes (Call.ScanPart index)) }
         ensures settles { SettlesSome (λ root. false) self.old self.new }
         ensures lists { (self.new.lists ≡ self.old.lists) ⊎ (self.new.lists ≡ next_count self.old.lists) }
+        ensures spared { result ≡ Err StepError.NoMemory → StayCalm self.old self.new }
         ensures cause { HasCause (result ≡ Err StepError.Store) self.old.faults self.new.faults }
         ensures never_full { (limit : ℕ) → result ≢ Err (StepError.JournalFull limit) }
     {

@@ -8,7 +8,7 @@ ghost use Rattle.account_core.specs.Legality.{MayBeServed};
 ghost use Rattle.account_core.specs.Machine.{reply_of};
 ghost use Rattle.account_core.specs.Forms.{HasForm};
 ghost use Rattle.account_ledger.specs.NamedFiles.{file_named};
-ghost use Rattle.account_ledger.specs.Serving.{Enters, OfAccount, Opened, Serves, ServesRows, WritesBy, misses};
+ghost use Rattle.account_ledger.specs.Serving.{Enters, OfAccount, Opened, Serves, ServesRows, StayCalm, WritesBy, misses};
 ghost use Rattle.root_ledgers.specs.Settling.{OnFiles};
 
 use crate::AccountState;
@@ -36,6 +36,7 @@ impl<K: Keeper> AccountState<K> {
         requires held { length self.old.history < self.old.reserved }
         ensures serves { Serves caller (Call.Remove mailbox base) [] result self.old self.new }
         ensures form { IfOk result (HasForm self.old.setup.roots self.old.setup.mailboxes (Call.Remove mailbox base)) }
+        ensures spared { result ≡ Err StepError.NoMemory → StayCalm self.old self.new }
         ensures never_full { (limit : ℕ) → result ≢ Err (StepError.JournalFull limit) }
     {
         self.is_in_order();

@@ -1,5 +1,5 @@
 // Rows and totals of roots, by what is kept of them.
-ghost use Rattle.std.specs.Prelude.{◌≡◌, ◌<◌, length, IfOk, All};
+ghost use Rattle.std.specs.Prelude.{◌≡◌, ◌<◌, ◌≤◌, [], take, length, vec_capacity, All};
 ghost use Rattle.quota_units.specs.Limiting.{AreLimits};
 ghost use Rattle.root_ledgers.specs.Scans.{AreSmall};
 ghost use Rattle.account_ledger.specs.Rows.{kept_row, kept_rows, totals_of};
@@ -8,7 +8,6 @@ use account_core::{RootRow, RootRows};
 use quota_roots::Roots;
 use quota_units::{Limits, Totals};
 use root_ledgers::Book;
-use std::alloc::{AllocError, Global};
 
 fn row(limits: &[Limits], books: &[Book], root: u32) -> RootRow
     requires limits { root < length limits.now }
@@ -24,38 +23,45 @@ fn row(limits: &[Limits], books: &[Book], root: u32) -> RootRow
     }
 }
 
-/// The rows of the roots that govern the mailbox, in order.
+/// The rows of the roots that govern the mailbox, in order, in a list that is empty and has memory for four.
 pub(crate) fn rows_of(
-    alloc: Global,
+    rows: Vec<RootRow>,
     roots: &Roots,
     limits: &[Limits],
     books: &[Book],
     mailbox: &[u8],
-) -> Result<RootRows, AllocError>
+) -> RootRows
     requires limits { length limits.now ≡ length roots.now }
     requires books { length books.now ≡ length roots.now }
-    ensures { IfOk result (λ rows. rows ≡ kept_rows roots.now limits.now books.now mailbox.now) }
+    requires empty { rows.items ≡ [] }
+    requires held { 4 ≤ vec_capacity rows }
+    ensures { result ≡ kept_rows roots.now limits.now books.now mailbox.now }
 {
-    let mut rows = RootRows::new(alloc);
+    let mut rows = rows;
     for root in 0..roots.count() {
         if roots.governs(root, mailbox) {
-            rows.push(row(limits, books, root))?;
+            rows.push_reserved(row(limits, books, root));
         }
     }
-    Ok(rows)
+    RootRows::of(rows)
 }
 
-/// The totals of each root.
-pub(crate) fn totals_of(alloc: Global, books: &[Book]) -> Result<Vec<Totals>, AllocError>
-    requires { All (λ book. AreSmall book.totals) books.now }
-    ensures value { IfOk result (λ totals. totals.items ≡ totals_of books.now) }
-    ensures small { IfOk result (λ totals. All AreSmall totals.items) }
+/// The totals of each root, and zeros behind them.
+pub(crate) fn totals_of(books: &[Book]) -> [Totals; 4]
+    requires few { length books.now ≤ 4 }
+    requires small { All (λ book. AreSmall book.totals) books.now }
+    ensures value { take (length books.now) result ≡ totals_of books.now }
+    ensures small { All AreSmall result }
 {
-    let mut totals = Vec::new(alloc);
-    for book in books {
-        totals.push(book.totals)?;
+    let none = Totals {
+        octets: 0,
+        count: 0,
+    };
+    let mut totals = [none; 4];
+    for (root, book) in books.iter().enumerate() {
+        totals[root] = book.totals;
     }
-    Ok(totals)
+    totals
 }
 
 /// Each set limit is in its range.

@@ -1,5 +1,5 @@
 // The state of an account.
-ghost use Rattle.std.specs.Prelude.{◌≡◌, ◌≢◌, ◌<◌, ◌≤◌, ◌+◌, ◌-◌, ◌^◌, ◌↔◌, ◌++◌, ◌∷◌, [], min, ℕ, true, false, IsTrue, length, nat_eq, codes, IfOk, IfErr, IfSome, OnOk, All};
+ghost use Rattle.std.specs.Prelude.{◌≡◌, ◌≢◌, ◌<◌, ◌≤◌, ◌+◌, ◌-◌, ◌^◌, ◌↔◌, ◌++◌, ◌∷◌, [], min, ℕ, true, false, IsTrue, vec_capacity, length, nat_eq, codes, IfOk, IfErr, IfSome, OnOk, All};
 ghost use Rattle.quota_roots.specs.RootLists.{place_of};
 ghost use Rattle.admission.specs.Fitting.{limits_at};
 ghost use Rattle.quota_roots.specs.Governing.{governs_at};
@@ -8,7 +8,7 @@ ghost use Rattle.account_core.specs.Forms.{HasForm};
 ghost use Rattle.account_ledger.specs.Rows.{IsInside, IsVerdict};
 ghost use Rattle.keeper.specs.Causes.{HasCause, Rose};
 ghost use Rattle.account_ledger.specs.Order.{IsInOrder};
-ghost use Rattle.account_ledger.specs.Serving.{Opened, OfAccount, SettlesSome, Enters, HasBytes, IsQuestion, IsServed, Leaves, ListsFor, Serves, ServesLedgers, ServesRows, is_place, misses, needs};
+ghost use Rattle.account_ledger.specs.Serving.{Opened, OfAccount, SettlesSome, Enters, HasBytes, IsQuestion, IsServed, Leaves, ListsFor, Serves, ServesLedgers, ServesRows, StayCalm, is_filing, is_place, misses, needs};
 ghost use Rattle.account_core.specs.Legality.{MayBeServed, fault_count};
 ghost use Rattle.account_core.specs.History.{entry_of};
 ghost use Rattle.keeper.specs.Calls.{Changes};
@@ -27,7 +27,7 @@ use account_core::{Call, Entry, Reply, RootRow, RootRows, StepError};
 use account_opening::{OpenError, admit_files};
 use admission::{Verdict, admit};
 use keeper::Keeper;
-use quota_roots::Setup;
+use quota_roots::{MAX_ROOTS, Setup};
 use quota_units::{Limits, Totals};
 use root_ledgers::{Book, MOST, Standing, books_in_doubt, coming, settle, settle_coming};
 use std::alloc::{AllocError, Global};
@@ -69,6 +69,7 @@ impl<K: Keeper> Model for AccountState<K> {
       first_faults = K.faults a.opened.value;
       history = a.history.items;
       reserved = vec_capacity a.history;
+      delivered = a.counts.deliveries;
       standings = standings_of a.books.items;
       lengths = lengths_of a.books.items;
     } };
@@ -98,6 +99,8 @@ impl<K: Keeper> AccountState<K> {
         ensures order { IfOk result IsInOrder }
         ensures refused { IfErr result (λ fault. Changes (OnFiles (IsRefused setup epoch fault.cause)) (K.told keeper) (K.told fault.keeper)) }
         ensures cause { IfErr result (λ fault. HasCause (fault.cause ≡ OpenError.Store) (K.faults keeper) (K.faults fault.keeper)) }
+        ensures appends { IfOk result (λ state. state.append_faults ≡ K.append_faults keeper) }
+        ensures appends_then { IfErr result (λ fault. K.append_faults fault.keeper ≡ K.append_faults keeper) }
     {
         let mut keeper = keeper;
         let opened = Snapshot::of(&keeper);
@@ -159,6 +162,8 @@ impl<K: Keeper> AccountState<K> {
     ///
     /// `bytes` are the octets of a delivered message, at most 67108864, and empty for the other calls.
     ///
+    /// All memory is taken before a file is changed, but for what the keeper needs to put a message's file or to rename it.
+    ///
     /// A delivery that is accepted, a removal and a move write one line into the ledger of each settled root whose usage changes,
     /// or fold the ledger where there is no room. Where that fails the call is answered all the same, and that root is in doubt.
     ///
@@ -166,7 +171,8 @@ impl<K: Keeper> AccountState<K> {
     ///
     /// `JournalFull` exactly where the history holds as many entries as the setup's journal allows; nothing changes then.
     /// `Store` only where the store failed in this call; the entry has fault then, and the messages and the limits are as before.
-    /// `NoMemory`: there is no entry, and the messages and the limits are as before.
+    /// `NoMemory`: there is no entry, and the messages and the limits are as before; so are all roots and their ledgers, unless a
+    /// delivery or a move has settled the roots that it needs.
     /// After each error a root that was settled still is.
     pub fn serve(
         &mut self,
@@ -183,6 +189,7 @@ impl<K: Keeper> AccountState<K> {
         ensures form { IfOk result (HasForm self.old.setup.roots self.old.setup.mailboxes call) }
         ensures ledgers { ServesLedgers call result self.old self.new }
         ensures rows { Changes (OnFiles (λ files files'. ServesRows self.old.epoch call bytes.now result files.rows files'.rows)) self.old.told self.new.told }
+        ensures spared { result ≡ Err StepError.NoMemory → is_filing call ≡ false → StayCalm self.old self.new }
         ensures cause { result ≡ Err StepError.Store → Rose self.old.faults self.new.faults }
         ensures lists { ListsFor call self.old.lists self.new.lists }
         ensures full { (limit : ℕ) → (result ≡ Err (StepError.JournalFull limit)) ↔ ((length self.old.history ≡ self.old.setup.journal) × (limit ≡ self.old.setup.journal)) }
@@ -215,6 +222,7 @@ impl<K: Keeper> AccountState<K> {
         requires held { length self.old.history < self.old.reserved }
         ensures serves { Serves caller call bytes.now result self.old self.new }
         ensures form { IfOk result (HasForm self.old.setup.roots self.old.setup.mailboxes call) }
+        ensures spared { result ≡ Err StepError.NoMemory → is_filing call ≡ false → StayCalm self.old self.new }
         ensures lists { ListsFor call self.old.lists self.new.lists }
         ensures never_full { (limit : ℕ) → result ≢ Err (StepError.JournalFull limit) }
     {
@@ -250,11 +258,13 @@ impl<K: Keeper> AccountState<K> {
         requires held { length self.old.history < self.old.reserved }
         ensures serves { Serves caller call bytes.now result self.old self.new }
         ensures form { IfOk result (HasForm self.old.setup.roots self.old.setup.mailboxes call) }
+        ensures spared { result ≡ Err StepError.NoMemory → StayCalm self.old self.new }
         ensures lists { ListsFor call self.old.lists self.new.lists }
         ensures never_full { (limit : ℕ) → result ≢ Err (StepError.JournalFull limit) }
     {
         self.is_in_order();
         let answer = self.answer(alloc, &call);
+        self.is_in_order();
         match answer {
             Ok(reply) => {
                 self.note(caller, call, false);
@@ -318,6 +328,7 @@ impl<K: Keeper> AccountState<K> {
         ensures settles { SettlesSome (needs self.old.setup.roots call.now) self.old self.new }
         ensures missed { IfOk result (λ given. misses given ≡ true → (root : ℕ) → needs self.old.setup.roots call.now root ≡ false) }
         ensures lists { ListsFor call.now self.old.lists self.new.lists }
+        ensures spared { result ≡ Err StepError.NoMemory → StayCalm self.old self.new }
         ensures cause { HasCause (result ≡ Err StepError.Store) self.old.faults self.new.faults }
         ensures never_full { (limit : ℕ) → result ≢ Err (StepError.JournalFull limit) }
     {
@@ -351,6 +362,7 @@ impl<K: Keeper> AccountState<K> {
         ensures usage { IfOk result (λ totals. OfAccount self.old (λ account. totals ≡ usage_at self.old.setup.roots root account)) }
         ensures settled { OnOk result (standing_at self.new.standings root ≡ Settled) }
         ensures settles { SettlesSome (nat_eq root) self.old self.new }
+        ensures spared { result ≡ Err StepError.NoMemory → StayCalm self.old self.new }
         ensures cause { HasCause (result ≡ Err StepError.Store) self.old.faults self.new.faults }
         ensures never_full { (limit : ℕ) → result ≢ Err (StepError.JournalFull limit) }
     {
@@ -379,8 +391,11 @@ impl<K: Keeper> AccountState<K> {
         ensures opened { Opened self.old self.new }
         ensures history { self.new.history ≡ self.old.history }
         ensures reserved { self.new.reserved ≡ self.old.reserved }
+        ensures delivered { self.new.delivered ≡ self.old.delivered }
         ensures settled { OnOk result ((root : ℕ) → comes_under self.old.setup.roots (option_map (λ m. m.now) from.entry) to.now root ≡ true → standing_at self.new.standings root ≡ Settled) }
         ensures settles { SettlesSome (comes_under self.old.setup.roots (option_map (λ m. m.now) from.entry) to.now) self.old self.new }
+        ensures order { IsInOrder self.new }
+        ensures spared { result ≡ Err StepError.NoMemory → StayCalm self.old self.new }
         ensures cause { HasCause (result ≡ Err StepError.Store) self.old.faults self.new.faults }
         ensures never_full { (limit : ℕ) → result ≢ Err (StepError.JournalFull limit) }
     {
@@ -393,39 +408,40 @@ impl<K: Keeper> AccountState<K> {
             from,
             to,
         );
+        self.is_in_order();
         if let Err(fault) = settled {
             return Err(step_error(fault));
         }
         Ok(())
     }
 
-    /// The rows of the roots that govern the mailbox, which are settled.
-    fn rows_of(&self, alloc: Global, mailbox: &[u8]) -> Result<RootRows, AllocError>
-        requires { (root : ℕ) → governs_at self.now.setup.roots root mailbox.now ≡ true → standing_at self.now.standings root ≡ Settled }
-        ensures rows { IfOk result (λ rows. OfAccount self.now (λ account. rows ≡ governing_rows self.now.setup.roots account mailbox.now)) }
-        ensures inside { IfOk result (All (λ row. row.root < length self.now.setup.roots)) }
+    /// The rows of the roots that govern the mailbox, which are settled. The list that they are put into is empty, and memory is
+    /// held for four.
+    fn rows_of(&self, rows: Vec<RootRow>, mailbox: &[u8]) -> RootRows
+        requires settled { (root : ℕ) → governs_at self.now.setup.roots root mailbox.now ≡ true → standing_at self.now.standings root ≡ Settled }
+        requires empty { rows.items ≡ [] }
+        requires held { 4 ≤ vec_capacity rows }
+        ensures rows { OfAccount self.now (λ account. result ≡ governing_rows self.now.setup.roots account mailbox.now) }
+        ensures inside { All (λ row. row.root < length self.now.setup.roots) result }
     {
-        rows_of(alloc, &self.setup.roots, &self.limits, &self.books, mailbox)
+        rows_of(rows, &self.setup.roots, &self.limits, &self.books, mailbox)
     }
 
-    /// Whether a message fits the roots that it comes under when it goes from one mailbox to another, which are settled.
-    pub(crate) fn verdict_of(
-        &self,
-        alloc: Global,
-        from: Option<&[u8]>,
-        to: &[u8],
-        octets: u64,
-    ) -> Result<Verdict, AllocError>
+    /// Whether a message fits the roots that it comes under when it goes from one mailbox to another, which are settled. It takes
+    /// no memory.
+    pub(crate) fn verdict_of(&self, from: Option<&[u8]>, to: &[u8], octets: u64) -> Verdict
         requires { (root : ℕ) → comes_under self.now.setup.roots (option_map (λ m. m.now) from) to.now root ≡ true → standing_at self.now.standings root ≡ Settled }
-        ensures verdict { IfOk result (λ verdict. OfAccount self.now (λ account. IsVerdict (over_of self.now.setup.roots account (coming self.now.setup.roots (option_map (λ m. m.now) from.entry) to.now) octets) verdict)) }
-        ensures inside { IfOk result (IsInside (length self.now.setup.roots)) }
+        ensures verdict { OfAccount self.now (λ account. IsVerdict (over_of self.now.setup.roots account (coming self.now.setup.roots (option_map (λ m. m.now) from.entry) to.now) octets) result) }
+        ensures inside { IsInside (length self.now.setup.roots) result }
     {
-        let totals = totals_of(alloc, &self.books)?;
+        // The account has at most four roots.
+        let _count = self.setup.roots.count();
+        let totals = totals_of(&self.books);
         are_limits(&self.limits);
         // No limit is so large that more octets than these could be within it.
         let octets = octets.min(MOST);
         let roots = coming(&self.setup.roots, from, to);
-        Ok(admit(&self.limits, &totals, roots, octets))
+        admit(&self.limits, &totals[..self.books.len()], roots, octets)
     }
 
     /// What the quota of the root of this name is answered; a root in doubt is settled first.
@@ -439,6 +455,7 @@ impl<K: Keeper> AccountState<K> {
         ensures settled { OnOk result ((root : ℕ) → is_place (place_of self.old.setup.roots name.now) root ≡ true → standing_at self.new.standings root ≡ Settled) }
         ensures settles { SettlesSome (is_place (place_of self.old.setup.roots name.now)) self.old self.new }
         ensures missed { IfOk result (λ given. misses given ≡ true → (root : ℕ) → is_place (place_of self.old.setup.roots name.now) root ≡ false) }
+        ensures spared { result ≡ Err StepError.NoMemory → StayCalm self.old self.new }
         ensures cause { HasCause (result ≡ Err StepError.Store) self.old.faults self.new.faults }
         ensures never_full { (limit : ℕ) → result ≢ Err (StepError.JournalFull limit) }
     {
@@ -466,12 +483,13 @@ impl<K: Keeper> AccountState<K> {
         ensures settled { OnOk result ((root : ℕ) → governs_at self.old.setup.roots root mailbox.now ≡ true → standing_at self.new.standings root ≡ Settled) }
         ensures settles { SettlesSome (λ root. governs_at self.old.setup.roots root mailbox.now) self.old self.new }
         ensures there { IfOk result (λ given. misses given ≡ false) }
+        ensures spared { result ≡ Err StepError.NoMemory → StayCalm self.old self.new }
         ensures cause { HasCause (result ≡ Err StepError.Store) self.old.faults self.new.faults }
         ensures never_full { (limit : ℕ) → result ≢ Err (StepError.JournalFull limit) }
     {
+        let rows = Vec::with_capacity(alloc, MAX_ROOTS as usize)?;
         self.settle_coming(alloc, None, mailbox)?;
-        let rows = self.rows_of(alloc, mailbox)?;
-        Ok(Reply::Roots(rows))
+        Ok(Reply::Roots(self.rows_of(rows, mailbox)))
     }
 
     /// Whether INBOX would take a message of so many octets; its roots in doubt are settled first.
@@ -485,11 +503,12 @@ impl<K: Keeper> AccountState<K> {
         ensures settled { OnOk result ((root : ℕ) → governs_at self.old.setup.roots root (codes "INBOX") ≡ true → standing_at self.new.standings root ≡ Settled) }
         ensures settles { SettlesSome (λ root. governs_at self.old.setup.roots root (codes "INBOX")) self.old self.new }
         ensures there { IfOk result (λ given. misses given ≡ false) }
+        ensures spared { result ≡ Err StepError.NoMemory → StayCalm self.old self.new }
         ensures cause { HasCause (result ≡ Err StepError.Store) self.old.faults self.new.faults }
         ensures never_full { (limit : ℕ) → result ≢ Err (StepError.JournalFull limit) }
     {
         self.settle_coming(alloc, None, b"INBOX")?;
-        let verdict = self.verdict_of(alloc, None, b"INBOX", octets)?;
+        let verdict = self.verdict_of(None, b"INBOX", octets);
         Ok(check_reply(verdict))
     }
 

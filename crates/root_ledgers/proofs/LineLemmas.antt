@@ -1,5 +1,5 @@
 -- Lines and the room for them.
-use Rattle.std.proofs.Common.{◌≡◌, ◌≢◌, ℕ, ◌+◌, ◌-◌, ◌≤◌, Bool, false, List, length, Option, Some, None, arith, ◌∙◌, ap, sym, refl, subst, inl, inr, zero-add}
+use Rattle.std.proofs.Common.{◌≡◌, ◌≢◌, ℕ, ◌+◌, ◌-◌, ◌≤◌, Bool, false, List, length, Option, Some, None, arith, ◌∙◌, ap, sym, subst, inl, inr, zero-add}
 use Rattle.std.specs.Prelude.{IfSome}
 use Rattle.std.proofs.lemmas.Bool.{le-ltb, cases_lt}
 use Rattle.quota_units.specs.Limiting.{LimitNumbers}
@@ -30,9 +30,6 @@ causes_then m n k a b c sum s t = record {
   rose = omega (arith, s.rose, t.rose, s.later, t.later);
   kept = λ none. t.kept (omega arith) ∙ s.kept (omega arith);
 }
-
-pub causes_none : (a : ℕ) → HasCauses 0 a a
-causes_none a = record { later = omega arith; rose = omega arith; kept = λ none. refl }
 
 module _ (changes : ℕ → Option Change) (octets : ℕ) (limits : List LimitNumbers) (n : ℕ) (a b c : List Book) (others : (other : ℕ) → other ≢ n → book_at c other ≡ book_at b other) where
   pub books_more : BooksLined n changes octets limits a b → length c ≡ length b → BookLined (changes n) octets (limits_at limits n) (book_at b n) (book_at c n) → BooksLined (n + 1) changes octets limits a c

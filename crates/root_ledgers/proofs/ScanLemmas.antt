@@ -12,9 +12,6 @@ same_totals {b = b} {c = c} e f = ap (λ n. let x : Totals = record { octets = n
 pub cut_more : (a b : ℕ) → cut (cut a + b) ≡ cut (a + b)
 cut_more a b = omega arith
 
-pub cut_both : (a b : ℕ) → cut (cut a + cut b) ≡ cut (a + b)
-cut_both a b = omega arith
-
 module _ {X : Type 0} (weight : X → ℕ) where
   pub sum_more : (xs : List X) (i : ℕ) (d : X) → i < length xs → sum_by weight (take (i + 1) xs) ≡ sum_by weight (take i xs) + weight (get_or xs i d)
   sum_more xs i d inside = ap (sum_by weight) (take_more xs i d inside) ∙ sum_by_push weight (take i xs) (get_or xs i d)

@@ -1,5 +1,7 @@
 -- Roots are settled one after another.
-use Rattle.std.proofs.Common.{◌≡◌, ℕ, ◌<◌, ◌+◌, Bool, true, false, not, nat_eq, List, length, Option, Some, None, refl, sym, ap, ◌∙◌, inl, inr, subst, eqb-true, arith}
+use Rattle.std.proofs.Common.{◌≡◌, ℕ, ◌<◌, ◌≤◌, ◌+◌, Bool, true, false, not, nat_eq, List, length, Option, Some, None, refl, sym, ap, ◌∙◌, inl, inr, subst, eqb-true, arith, get_or}
+use Rattle.std.proofs.lemmas.List.{get_or_read}
+use Rattle.std.specs.Prelude.{IfSome, is_some}
 use Rattle.std.proofs.lemmas.Bool.{false≢true, and_parts, cases_lt}
 use Rattle.std.proofs.lemmas.Option.{slice_get_past}
 use Rattle.std.specs.Option.{option_map_or}
@@ -7,16 +9,17 @@ use Rattle.quota_units.specs.Limiting.{LimitNumbers}
 use Rattle.quota_units.specs.declared.totals.Totals.{Totals}
 use Rattle.quota_roots.specs.declared.root.RootSpec.{RootSpec}
 use Rattle.quota_roots.specs.Governing.{governs, governs_at}
-use Rattle.keeper.specs.Files.{Files}
+use Rattle.keeper.specs.Files.{Files, Row}
 use Rattle.keeper.specs.Calls.{Told, Changes}
 use Rattle.admission.specs.Fitting.{limits_at}
 use Rattle.root_ledgers.specs.declared.book.Book.{Book}
 use Rattle.root_ledgers.specs.declared.book.Standing.{Standing}
 use Rattle.root_ledgers.specs.declared.book.Standing.TheVariants.{Settled, Doubt}
 use Rattle.root_ledgers.specs.Scans.{scan}
+use Rattle.root_ledgers.specs.Scanning.{AreScans, IsScan, is_wanted}
 use Rattle.root_ledgers.specs.Ledgers.{folded}
 use Rattle.root_ledgers.specs.Settling.{OnFiles, book_at, folded_book, SettlesOrStays, Settling, Marks, MarksOne, comes_under}
-use Rattle.keeper.proofs.Changing.{changes_then, changes_same}
+use Rattle.keeper.proofs.Changing.{changes_then}
 
 one_then : (may may1 : Bool) → (may1 ≡ true → may ≡ true) → (limits : LimitNumbers) (totals totals1 : Totals) → totals1 ≡ totals → (book book1 book2 : Book) (ledger ledger1 ledger2 : Option (List ℕ))
     → SettlesOrStays may limits totals book book1 ledger ledger1 → SettlesOrStays may1 limits totals1 book1 book2 ledger1 ledger2
@@ -61,14 +64,6 @@ module _ (may may1 : ℕ → Bool) (wider : (r : ℕ) → may1 r ≡ true → ma
         changes_then (OnFiles (Settling may roots limits mailboxes a b)) (OnFiles (Settling may1 roots limits mailboxes b c)) (OnFiles (Settling may roots limits mailboxes a c))
         (λ x y z. settling_then a b c x.files y.files z.files) t u v
 
-pub settles_none : (may : ℕ → Bool) (roots : List RootSpec) (limits : List LimitNumbers) (mailboxes : List (List ℕ)) (books : List Book) (t : Option Told)
-    → Changes (OnFiles (Settling may roots limits mailboxes books books)) t t
-settles_none may roots limits mailboxes books t =
-    changes_same (OnFiles (Settling may roots limits mailboxes books books)) (λ x. record { rows = refl; each = λ r. inl (record { book_is = refl; ledger_is = refl }) }) t
-
-pub marks_none : (may : ℕ → Bool) (books : List Book) → Marks may books books
-marks_none may books = record { count = refl; each = λ r. inl refl }
-
 pub governed_inside : (roots : List RootSpec) (mailbox : List ℕ) (root : ℕ) → governs_at roots root mailbox ≡ true → root < length roots
 governed_inside roots mailbox root governed = elim (cases_lt root (length roots)) [
   | inl inside ↦ inside
@@ -97,8 +92,46 @@ module _ (may : ℕ → Bool) (n : ℕ) where
     | inr not_earlier ↦ let e : n ≡ root = omega arith in subst (λ k. (book_at b k).standing ≡ Settled) e here
   ]
 
-  pub settled_past : (a : List Book) → SettledBelow n a → may n ≡ false → SettledBelow (n + 1) a
-  settled_past a before is_not root below is = elim (cases_lt root n) [
+  pub settled_here : (a : List Book) → SettledBelow n a → (may n ≡ true → (book_at a n).standing ≡ Settled) → SettledBelow (n + 1) a
+  settled_here a before here root below is = elim (cases_lt root n) [
     | inl earlier ↦ before root earlier is
-    | inr not_earlier ↦ let e : n ≡ root = omega arith in absurd (false≢true (sym is_not ∙ ap may e ∙ is))
+    | inr not_earlier ↦ let e : n ≡ root = omega arith in subst (λ k. may k ≡ true → (book_at a k).standing ≡ Settled) e here is
   ]
+
+-- a root that was scanned may be settled, and is in doubt
+pub wanted_may : (may : Bool) (standing : Standing) (found : Option Totals) (totals : Totals) → IsScan (is_wanted may standing) found → found ≡ Some totals → (may ≡ true) × (standing ≡ Doubt)
+wanted_may may standing found totals scanned is = by standing (sym scanned.there ∙ ap is_some is)
+  where
+    by : (s : Standing) → is_wanted may s ≡ true → (may ≡ true) × (s ≡ Doubt)
+    by Settled wanted = absurd (false≢true wanted)
+    by Doubt wanted = (wanted, refl)
+
+-- a root that may be settled and was not scanned is settled
+pub unwanted_settled : (may : Bool) (standing : Standing) (found : Option Totals) → IsScan (is_wanted may standing) found → found ≡ None → may ≡ true → standing ≡ Settled
+unwanted_settled may standing found scanned is there = by standing (sym scanned.there ∙ ap is_some is)
+  where
+    by : (s : Standing) → is_wanted may s ≡ false → s ≡ Settled
+    by Settled wanted = refl
+    by Doubt wanted = absurd (false≢true (sym wanted ∙ there))
+
+-- what is known of the message files stays known
+pub rows_still : (P : List Row → Type 0) (may : ℕ → Bool) (roots : List RootSpec) (limits : List LimitNumbers) (mailboxes : List (List ℕ)) (a b : List Book) (t t' : Option Told)
+    → Changes (OnFiles (Settling may roots limits mailboxes a b)) t t' → IfSome t (λ x. P x.files.rows) → IfSome t' (λ x. P x.files.rows)
+rows_still P may roots limits mailboxes a b None None changed known = tt
+rows_still P may roots limits mailboxes a b None (Some y) changed known = absurd changed
+rows_still P may roots limits mailboxes a b (Some x) None changed known = absurd changed
+rows_still P may roots limits mailboxes a b (Some x) (Some y) changed known = subst P (sym changed.rows) known
+
+-- the roots behind the one that was settled stay as they were
+pub left_more : (n : ℕ) (a b c : List Book) → Marks (nat_eq n) b c → ((root : ℕ) → n ≤ root → (book_at b root).standing ≡ (book_at a root).standing)
+    → (root : ℕ) → n + 1 ≤ root → (book_at c root).standing ≡ (book_at a root).standing
+left_more n a b c marks before root behind = elim (marks.each root) [
+  | inl same ↦ same ∙ before root (omega arith)
+  | inr w ↦ let e : n ≡ root = eqb-true n root w.0 in let f : n < n = omega arith in absurd (omega arith)
+]
+
+-- what was found of the root at a place
+pub scan_here : (may : ℕ → Bool) (count : ℕ) (books : List Book) (scans : List (Option Totals)) (root : ℕ) (found : Option Totals)
+    → AreScans count (λ k. is_wanted (may k) (book_at books k).standing) scans → root < count → found ≡ get_or scans root found → IsScan (is_wanted (may root) (book_at books root).standing) found
+scan_here may count books scans root found scanned inside read =
+    subst (IsScan (is_wanted (may root) (book_at books root).standing)) (sym (get_or_read scans root found (omega (arith, scanned.count)) read None)) (scanned.each root inside)

@@ -1,9 +1,12 @@
 -- What a scan does.
-use Rattle.std.specs.Prelude.{◌≡◌, ℕ, List, Result, Ok, Err}
+use Rattle.std.specs.Prelude.{◌≡◌, ◌<◌, ℕ, Bool, false, is_some, List, length, slice_index_or, Vec, Option, None, IfSome, Result, Ok, Err}
 use Rattle.quota_units.specs.declared.totals.Totals.{Totals}
 use Rattle.quota_roots.specs.declared.root.RootSpec.{RootSpec}
+use Rattle.keeper.specs.Files.{Row}
 use Rattle.keeper.specs.Calls.{Told}
-use Rattle.root_ledgers.specs.Scans.{scan}
+use Rattle.root_ledgers.specs.declared.book.Standing.{Standing}
+use Rattle.root_ledgers.specs.declared.book.Standing.TheVariants.{Settled, Doubt}
+use Rattle.root_ledgers.specs.Scans.{scan, AreSmall}
 
 -- the files stay, and these totals are what the files of these mailboxes add up to
 abbrev pub ScansSome : List RootSpec → ℕ → List (List ℕ) → Totals → Told → Told → Type 0
@@ -13,3 +16,39 @@ ScansSome roots root mailboxes totals told told' = (totals ≡ scan roots root m
 abbrev pub Scans : {E : Type 0} → List RootSpec → ℕ → List (List ℕ) → Result Totals E → Told → Told → Type 0
 Scans roots root mailboxes (Ok totals) told told' = ScansSome roots root mailboxes totals told told'
 Scans roots root mailboxes (Err e) told told' = told'.files ≡ told.files
+
+-- a root that may be settled is scanned where it is in doubt
+abbrev pub is_wanted : Bool → Standing → Bool
+is_wanted may Settled = false
+is_wanted may Doubt = may
+
+-- there is a scan exactly of a root that is wanted
+pub record IsScan (wanted : Bool) (found : Option Totals) : Type 0 where
+  pub there : is_some found ≡ wanted
+  pub small : IfSome found AreSmall
+
+-- a scan that was made is what the files of the root's mailboxes add up to
+abbrev pub IsFresh : List RootSpec → ℕ → List (List ℕ) → Option Totals → List Row → Type 0
+IsFresh roots root mailboxes found rows = IfSome found (λ totals. totals ≡ scan roots root mailboxes rows)
+
+-- the files stay, and the root is scanned or is not
+abbrev pub ScansOne : {E : Type 0} → List RootSpec → ℕ → List (List ℕ) → Result (Option Totals) E → Told → Told → Type 0
+ScansOne roots root mailboxes (Ok found) told told' = IsFresh roots root mailboxes found told.files.rows × (told'.files ≡ told.files)
+ScansOne roots root mailboxes (Err e) told told' = told'.files ≡ told.files
+
+-- the scan of a root, where it was made
+abbrev pub scan_at : List (Option Totals) → ℕ → Option Totals
+scan_at scans root = slice_index_or scans root None
+
+-- there are scans exactly of the roots below a number that are wanted
+pub record AreScans (upto : ℕ) (wanted : ℕ → Bool) (scans : List (Option Totals)) : Type 0 where
+  pub count : length scans ≡ upto
+  pub each : (root : ℕ) → root < upto → IsScan (wanted root) (scan_at scans root)
+
+-- the files stay, and each scan that was made is fresh
+abbrev pub ScansList : List RootSpec → List (List ℕ) → List (Option Totals) → Told → Told → Type 0
+ScansList roots mailboxes scans told told' = ((root : ℕ) → IsFresh roots root mailboxes (scan_at scans root) told.files.rows) × (told'.files ≡ told.files)
+
+abbrev pub ScansEach : {A E : Type 0} → List RootSpec → List (List ℕ) → Result (Vec (Option Totals) A) E → Told → Told → Type 0
+ScansEach roots mailboxes (Ok scans) told told' = ScansList roots mailboxes scans.items told told'
+ScansEach roots mailboxes (Err e) told told' = told'.files ≡ told.files

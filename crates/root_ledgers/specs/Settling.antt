@@ -5,7 +5,7 @@ use Rattle.quota_units.specs.declared.totals.Totals.{Totals}
 use Rattle.quota_roots.specs.declared.root.RootSpec.{RootSpec}
 use Rattle.quota_roots.specs.Governing.{gaining, gains_at, governing, governs_at}
 use Rattle.keeper.specs.Files.{Files, ledger_at}
-use Rattle.keeper.specs.Calls.{Told}
+use Rattle.keeper.specs.Calls.{Told, Changes}
 use Rattle.admission.specs.Fitting.{limits_at}
 use Rattle.root_ledgers.specs.declared.book.Book.{Book}
 use Rattle.root_ledgers.specs.declared.book.Standing.{Standing}
@@ -26,6 +26,10 @@ coming roots (Some from) to = gaining roots from to
 -- what the files change by, where they are told
 abbrev pub OnFiles : (Files → Files → Type 0) → Told → Told → Type 0
 OnFiles R told told' = R told.files told'.files
+
+-- nothing changes of what is kept of the roots and of the files
+abbrev pub Spared : List Book → List Book → Option Told → Option Told → Type 0
+Spared books books' told told' = (books' ≡ books) × Changes (OnFiles (λ files files'. files' ≡ files)) told told'
 
 -- what is kept of no root
 abbrev pub no_book : Book

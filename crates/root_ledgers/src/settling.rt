@@ -1,25 +1,68 @@
 // Roots in doubt are settled.
-ghost use Rattle.std.specs.Prelude.{◌≡◌, ◌<◌, ℕ, true, length, nat_eq, OnOk, IsErrOf, All};
+ghost use Rattle.std.specs.Prelude.{◌≡◌, ◌<◌, ℕ, true, length, nat_eq, IfOk, IfSome, OnOk, IsErr, IsErrOf, All};
 ghost use Rattle.keeper.specs.Causes.{HasCause};
 ghost use Rattle.keeper.specs.Calls.{Changes};
 ghost use Rattle.std.specs.Option.{option_map};
-ghost use Rattle.root_ledgers.specs.declared.book.Standing.TheVariants.{Settled};
-ghost use Rattle.root_ledgers.specs.Scans.{AreSmall};
-ghost use Rattle.root_ledgers.specs.Settling.{OnFiles, Settling, Marks, book_at, comes_under, coming};
+ghost use Rattle.root_ledgers.specs.declared.book.Standing.TheVariants.{Settled, Doubt};
+ghost use Rattle.root_ledgers.specs.Scans.{AreSmall, scan};
+ghost use Rattle.root_ledgers.specs.Scanning.{AreScans, IsScan, ScansEach, ScansOne, is_wanted};
+ghost use Rattle.root_ledgers.specs.Settling.{OnFiles, Settling, Marks, Spared, book_at, comes_under, coming};
 
 use crate::book::{Book, Standing};
 use crate::scan::scan_root;
-use keeper::{KeepError, Keeper};
+use keeper::{Failed, KeepError, Keeper};
 use maildirsize::{Text, print_folded};
 use quota_roots::{RootSet, Roots, Setup};
-use quota_units::Limits;
+use quota_units::{Limits, Totals};
 use std::alloc::Global;
 
-/// Settles a root that is in doubt: its mailboxes are listed, and the folded text of what their files add up to is installed.
+/// Installs the folded text of a fresh scan as the ledger of a root in doubt, which is settled then.
 ///
 /// # Errors
 ///
-/// `Failed` where the store failed, and `NoMemory`. The root is in doubt then.
+/// `Failed` where the store failed. The root is in doubt, and its ledger as before.
+fn settle_by<K: Keeper>(
+    keeper: &mut K,
+    setup: &Setup,
+    limits: &[Limits],
+    books: &mut Vec<Book>,
+    root: u32,
+    totals: Totals,
+) -> Result<(), Failed>
+    requires root { root < length setup.now.roots }
+    requires limits { length limits.now ≡ length setup.now.roots }
+    requires books { length books.old.items ≡ length setup.now.roots }
+    requires kept { All (λ book. AreSmall book.totals) books.old.items }
+    requires doubt { (book_at books.old.items root).standing ≡ Doubt }
+    requires totals { AreSmall totals }
+    requires fresh { IfSome (K.told keeper.old) (λ t. totals ≡ scan setup.now.roots root setup.now.mailboxes t.files.rows) }
+    ensures files { Changes (OnFiles (Settling (nat_eq root) setup.now.roots limits.now setup.now.mailboxes books.old.items books.new.items)) (K.told keeper.old) (K.told keeper.new) }
+    ensures marks { Marks (nat_eq root) books.old.items books.new.items }
+    ensures small { All (λ book. AreSmall book.totals) books.new.items }
+    ensures settled { OnOk result ((book_at books.new.items root).standing ≡ Settled) }
+    ensures cause { HasCause (IsErr result) (K.faults keeper.old) (K.faults keeper.new) }
+    ensures appends { K.append_faults keeper.new ≡ K.append_faults keeper.old }
+{
+    // The account has at most four roots.
+    let _count = setup.roots.count();
+    let mut text = Text::new();
+    print_folded(&limits[root as usize], &totals, &mut text);
+    let length = text.as_slice().len();
+    keeper.install_ledger(root, text.as_slice())?;
+    books[root as usize] = Book {
+        totals,
+        standing: Standing::Settled,
+        length,
+    };
+    Ok(())
+}
+
+/// Settles a root that is in doubt: its mailboxes are listed, and the folded text of what their files add up to is installed.
+/// All memory is taken before a file is changed.
+///
+/// # Errors
+///
+/// `Failed` where the store failed, and `NoMemory`. The root is in doubt then, and its ledger as before.
 pub fn settle<K: Keeper>(
     alloc: Global,
     keeper: &mut K,
@@ -36,6 +79,7 @@ pub fn settle<K: Keeper>(
     ensures marks { Marks (nat_eq root) books.old.items books.new.items }
     ensures small { All (λ book. AreSmall book.totals) books.new.items }
     ensures settled { OnOk result ((book_at books.new.items root).standing ≡ Settled) }
+    ensures spared { IsErrOf result KeepError.NoMemory → Spared books.old.items books.new.items (K.told keeper.old) (K.told keeper.new) }
     ensures cause { HasCause (IsErrOf result KeepError.Failed) (K.faults keeper.old) (K.faults keeper.new) }
     ensures appends { K.append_faults keeper.new ≡ K.append_faults keeper.old }
 {
@@ -43,26 +87,71 @@ pub fn settle<K: Keeper>(
         return Ok(());
     }
     let totals = scan_root(alloc, keeper, setup, root)?;
-    // The account has at most four roots.
-    let _count = setup.roots.count();
-    let mut text = Text::new();
-    print_folded(&limits[root as usize], &totals, &mut text);
-    let length = text.as_slice().len();
-    keeper.install_ledger(root, text.as_slice())?;
-    books[root as usize] = Book {
-        totals,
-        standing: Standing::Settled,
-        length,
-    };
-    Ok(())
+    Ok(settle_by(keeper, setup, limits, books, root, totals)?)
 }
 
-/// Settles each root in doubt that a message comes under which goes from one mailbox to another; one that is delivered comes from
-/// none.
+/// A fresh scan of a root, where it is in doubt and a message comes under it which goes from one mailbox to another.
 ///
 /// # Errors
 ///
-/// `Failed` where the store failed, and `NoMemory`. Some of the roots may be settled then.
+/// `Failed` where the store failed, and `NoMemory`.
+fn scan_wanted<K: Keeper>(
+    alloc: Global,
+    keeper: &mut K,
+    setup: &Setup,
+    standing: Standing,
+    root: u32,
+    from: Option<&[u8]>,
+    to: &[u8],
+) -> Result<Option<Totals>, KeepError>
+    requires { root < length setup.now.roots }
+    ensures files { Changes (ScansOne setup.now.roots root setup.now.mailboxes result) (K.told keeper.old) (K.told keeper.new) }
+    ensures scan { IfOk result (IsScan (is_wanted (comes_under setup.now.roots (option_map (λ m. m.now) from.entry) to.now root) standing)) }
+    ensures cause { HasCause (IsErrOf result KeepError.Failed) (K.faults keeper.old) (K.faults keeper.new) }
+    ensures appends { K.append_faults keeper.new ≡ K.append_faults keeper.old }
+{
+    if let Standing::Settled = standing {
+        return Ok(None);
+    }
+    if !comes_under(&setup.roots, root, from, to) {
+        return Ok(None);
+    }
+    Ok(Some(scan_root(alloc, keeper, setup, root)?))
+}
+
+/// A fresh scan of each root in doubt that a message comes under which goes from one mailbox to another.
+///
+/// # Errors
+///
+/// `Failed` where the store failed, and `NoMemory`.
+fn scan_coming<K: Keeper>(
+    alloc: Global,
+    keeper: &mut K,
+    setup: &Setup,
+    books: &[Book],
+    from: Option<&[u8]>,
+    to: &[u8],
+) -> Result<Vec<Option<Totals>>, KeepError>
+    requires { length books.now ≡ length setup.now.roots }
+    ensures files { Changes (ScansEach setup.now.roots setup.now.mailboxes result) (K.told keeper.old) (K.told keeper.new) }
+    ensures scans { IfOk result (λ scans. AreScans (length setup.now.roots) (λ root. is_wanted (comes_under setup.now.roots (option_map (λ m. m.now) from.entry) to.now root) (book_at books.now root).standing) scans.items) }
+    ensures cause { HasCause (IsErrOf result KeepError.Failed) (K.faults keeper.old) (K.faults keeper.new) }
+    ensures appends { K.append_faults keeper.new ≡ K.append_faults keeper.old }
+{
+    let mut scans = Vec::new(alloc);
+    for root in 0..setup.roots.count() {
+        let standing = books[root as usize].standing;
+        scans.push(scan_wanted(alloc, keeper, setup, standing, root, from, to)?)?;
+    }
+    Ok(scans)
+}
+
+/// Settles each root in doubt that a message comes under which goes from one mailbox to another; one that is delivered comes from
+/// none. All memory is taken before a file is changed.
+///
+/// # Errors
+///
+/// `Failed` where the store failed, and `NoMemory`. After `Failed` some of the roots may be settled.
 pub fn settle_coming<K: Keeper>(
     alloc: Global,
     keeper: &mut K,
@@ -79,12 +168,14 @@ pub fn settle_coming<K: Keeper>(
     ensures marks { Marks (comes_under setup.now.roots (option_map (λ m. m.now) from.entry) to.now) books.old.items books.new.items }
     ensures small { All (λ book. AreSmall book.totals) books.new.items }
     ensures settled { OnOk result ((root : ℕ) → comes_under setup.now.roots (option_map (λ m. m.now) from.entry) to.now root ≡ true → (book_at books.new.items root).standing ≡ Settled) }
+    ensures spared { IsErrOf result KeepError.NoMemory → Spared books.old.items books.new.items (K.told keeper.old) (K.told keeper.new) }
     ensures cause { HasCause (IsErrOf result KeepError.Failed) (K.faults keeper.old) (K.faults keeper.new) }
     ensures appends { K.append_faults keeper.new ≡ K.append_faults keeper.old }
 {
+    let scans = scan_coming(alloc, keeper, setup, books, from, to)?;
     for root in 0..setup.roots.count() {
-        if comes_under(&setup.roots, root, from, to) {
-            settle(alloc, keeper, setup, limits, books, root)?;
+        if let Some(totals) = scans[root as usize] {
+            settle_by(keeper, setup, limits, books, root, totals)?;
         }
     }
     Ok(())

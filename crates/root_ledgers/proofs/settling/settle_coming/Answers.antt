@@ -1,41 +1,52 @@
-use Rattle.std.proofs.Common.{◌∙◌, ℕ, List, sym, arith, rules, nat_eq}
+use Rattle.std.proofs.Common.{◌∙◌, ℕ, List, arith, rules, nat_eq, length}
 use Rattle.std.specs.Option.{option_map}
 use denote.Ref.{Bor}
+use Rattle.root_ledgers.specs.Scanning.{IsFresh, scan_at}
 use Rattle.root_ledgers.specs.Settling.{comes_under}
-use Rattle.root_ledgers.proofs.SettleLemmas.{settles_then, marks_then, only_one, comes_inside, settled_more, settled_past}
+use Rattle.root_ledgers.proofs.SettleLemmas.{settles_then, marks_then, only_one, comes_inside, settled_more, settled_stays, wanted_may, unwanted_settled, rows_still, left_more, scan_here, settled_here}
 use Rattle.root_ledgers.proofs.settling.settle_coming.Goals as goal
-use Rattle.root_ledgers.proofs.settling.settle_coming.Goals.{then-comes_under+in_ok-settle, else-comes_under}
+use Rattle.root_ledgers.proofs.settling.settle_coming.Goals.{in-Some+in_ok-settle_by, in_default}
 
-pub returns-in_err-settle-clause-files : goal.returns-in_err-settle-clause-files
-returns-in_err-settle-clause-files g c =
+pub returns-in_err-settle_by-clause-files : goal.returns-in_err-settle_by-clause-files
+returns-in_err-settle_by-clause-files g c =
     let setup = c.args.setup.now in
     let may = comes_under setup.roots (option_map (λ (m : Bor (List ℕ)). m.now) c.args.from) c.args.to.now in
-    settles_then may (nat_eq c.loop-root.root) (only_one may c.loop-root.root (sym c.comes_under.ensures ∙ c.if-comes_under.true)) setup.roots c.args.limits.now setup.mailboxes
-    c.args.books.now.items c.loop-root.books.items c.settle.new.books.items _ _ _ c.loop-root.invariant.files c.settle.ensures.files
+    let root = c.loop-root.root in
+    let scanned = scan_here may (length setup.roots) c.args.books.now.items c.in_ok-scans.scans.items root c.index.result.now (rw c.deref.ensures.value at c.in_ok-scans.ensures.scans) (omega (arith, c.count-root-end.ensures.value)) c.index.ensures in
+    settles_then may (nat_eq root) (only_one may root (wanted_may (may root) _ _ c.in-Some.totals scanned c.in-Some.is).0) setup.roots c.args.limits.now setup.mailboxes
+    c.args.books.now.items c.loop-root.books.items c.settle_by.new.books.items _ _ _ c.loop-root.invariant.files c.settle_by.ensures.files
 
 pub loop-root-preserved : goal.loop-root-preserved
 loop-root-preserved g c =
     let setup = c.args.setup.now in
     let may = comes_under setup.roots (option_map (λ (m : Bor (List ℕ)). m.now) c.args.from) c.args.to.now in
-    elim c.if-comes_under.branch [
-      | then-comes_under+in_ok-settle w ↦
-          let wider = only_one may c.loop-root.root (sym c.comes_under.ensures ∙ w.if-comes_under.true) in
+    let root = c.loop-root.root in
+    let scanned = scan_here may (length setup.roots) c.args.books.now.items c.in_ok-scans.scans.items root c.index.result.now (rw c.deref.ensures.value at c.in_ok-scans.ensures.scans) (omega (arith, c.count-root-end.ensures.value)) c.index.ensures in
+    let before = c.loop-root.invariant in
+    elim c.match-index.branch [
+      | in-Some+in_ok-settle_by w ↦
+          let wider = only_one may root (wanted_may (may root) _ _ w.in-Some.totals scanned w.in-Some.is).0 in
           rw (w.keeper-is, w.books-is) (record {
-            files = settles_then may (nat_eq c.loop-root.root) wider setup.roots c.args.limits.now setup.mailboxes
-                c.args.books.now.items c.loop-root.books.items w.settle.new.books.items _ _ _ c.loop-root.invariant.files w.settle.ensures.files;
-            marks = marks_then may (nat_eq c.loop-root.root) wider _ _ _ c.loop-root.invariant.marks w.settle.ensures.marks;
-            small = w.settle.ensures.small;
-            settled = settled_more may c.loop-root.root _ _ c.loop-root.invariant.settled w.settle.ensures.marks w.in_ok-settle.ensures.settled;
-            faults = w.in_ok-settle.ensures.cause.kept (search rules) ∙ c.loop-root.invariant.faults;
-            appends = w.settle.ensures.appends ∙ c.loop-root.invariant.appends;
+            files = settles_then may (nat_eq root) wider setup.roots c.args.limits.now setup.mailboxes
+                c.args.books.now.items c.loop-root.books.items w.settle_by.new.books.items _ _ _ before.files w.settle_by.ensures.files;
+            fresh = rows_still (λ rows. (k : ℕ) → IsFresh setup.roots k setup.mailboxes (scan_at c.in_ok-scans.scans.items k) rows) (nat_eq root) setup.roots c.args.limits.now setup.mailboxes
+                c.loop-root.books.items w.settle_by.new.books.items _ _ w.settle_by.ensures.files before.fresh;
+            marks = marks_then may (nat_eq root) wider _ _ _ before.marks w.settle_by.ensures.marks;
+            left = left_more root _ _ _ w.settle_by.ensures.marks before.left;
+            small = w.settle_by.ensures.small;
+            settled = settled_more may root _ _ before.settled w.settle_by.ensures.marks w.in_ok-settle_by.ensures.settled;
+            faults = w.in_ok-settle_by.ensures.cause.kept (search rules) ∙ before.faults;
+            appends = w.settle_by.ensures.appends ∙ before.appends;
           })
-      | else-comes_under w ↦ rw (w.keeper-is, w.books-is) (record {
-        files = c.loop-root.invariant.files;
-        marks = c.loop-root.invariant.marks;
-        small = c.loop-root.invariant.small;
-        settled = settled_past may c.loop-root.root _ c.loop-root.invariant.settled (sym c.comes_under.ensures ∙ w.if-comes_under.false);
-        faults = c.loop-root.invariant.faults;
-        appends = c.loop-root.invariant.appends;
+      | in_default w ↦ rw (w.keeper-is, w.books-is) (record {
+        files = before.files;
+        fresh = before.fresh;
+        marks = before.marks;
+        left = λ k behind. before.left k (omega (arith, behind));
+        small = before.small;
+        settled = settled_here may root _ before.settled (λ is. settled_stays _ _ _ (before.marks.each root) (unwanted_settled (may root) _ _ scanned w.in_default.is is));
+        faults = before.faults;
+        appends = before.appends;
       })
     ]
 

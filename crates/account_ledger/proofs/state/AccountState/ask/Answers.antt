@@ -10,6 +10,6 @@ returns-in-Ok-clause-serves g c =
     let given = c.in-Ok.reply in
     let calm = c.in-Ok.ensures.cause.kept (search rules) in
     noted c.args.caller c.args.call c.args.bytes.now given s m c.note.new.self (question_quiet c.args.call given c.requires.question) (question_rows c.args.call c.args.bytes.now given c.requires.question)
-    c.in-Ok.ensures.settles c.in-Ok.ensures.opened c.in-Ok.ensures.history calm
+    c.in-Ok.ensures.settles c.in-Ok.ensures.opened c.in-Ok.ensures.history c.is_in_order-2.ensures calm
     (settled_for (misses given) (needs s.setup.roots c.args.call) s m c.in-Ok.ensures.missed c.in-Ok.ensures.settled calm c.in-Ok.ensures.settles)
     c.in-Ok.ensures.reply c.note.ensures

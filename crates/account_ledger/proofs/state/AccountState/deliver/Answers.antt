@@ -43,7 +43,7 @@ returns-in-Ok-Over-clause-serves g c =
     let over = subst (λ (n : List ℕ). OfAccount m (λ account. over_in m.setup.roots account n c.args.octets ≡ Some (c.in-Ok-Over.root, c.in-Ok-Over.resource))) c.as_slice-2.ensures.value found in
     let settles = subst (λ (n : List ℕ). SettlesSome (λ root. governs_at s.setup.roots root n) s m) c.as_slice-2.ensures.value c.in-Ok-Over.ensures.settles in
     let settled = subst (λ (n : List ℕ). (root : ℕ) → governs_at s.setup.roots root n ≡ true → standing_at m.standings root ≡ Settled) c.as_slice-2.ensures.value c.in-Ok-Over.ensures.settled in
-    noted c.args.caller _ c.args.bytes.now _ s m c.note-in-Ok-Over.new.self (λ n n' calm. calm) (λ epoch rows. refl) settles c.fits.ensures.opened c.fits.ensures.history (c.in-Ok-Over.ensures.cause.kept (search rules)) settled
+    noted c.args.caller _ c.args.bytes.now _ s m c.note-in-Ok-Over.new.self (λ n n' calm. calm) (λ epoch rows. refl) settles c.fits.ensures.opened c.fits.ensures.history c.fits.ensures.order (c.in-Ok-Over.ensures.cause.kept (search rules)) settled
     (over_replied s c.args.mailbox c.args.octets c.args.flags m c.fits.ensures.opened c.fits.ensures.history there c.in-Ok-Over.root c.in-Ok-Over.resource over) c.note-in-Ok-Over.ensures
 
 pub returns-in-Ok-Fits-clause-serves : goal.returns-in-Ok-Fits-clause-serves
@@ -52,5 +52,5 @@ returns-in-Ok-Fits-clause-serves g c =
     let m = c.fits.new.self in
     let settles = subst (λ (n : List ℕ). SettlesSome (λ root. governs_at s.setup.roots root n) s m) c.as_slice-2.ensures.value c.in-Ok-Fits.ensures.settles in
     let settled = subst (λ (n : List ℕ). (root : ℕ) → governs_at s.setup.roots root n ≡ true → standing_at m.standings root ≡ Settled) c.as_slice-2.ensures.value c.in-Ok-Fits.ensures.settled in
-    serves_then c.args.caller _ c.args.bytes.now c.accept.result s m c.accept.new.self settles c.fits.ensures.opened c.fits.ensures.history
+    serves_then c.args.caller _ c.args.bytes.now c.accept.result s m c.accept.new.self settles c.fits.ensures.opened c.fits.ensures.history c.fits.ensures.order
     (c.in-Ok-Fits.ensures.cause.kept (search rules)) settled c.accept.ensures.opened c.accept.ensures.enters c.accept.ensures.reply c.accept.ensures.writes c.accept.ensures.rows c.accept.ensures.there c.accept.ensures.cause

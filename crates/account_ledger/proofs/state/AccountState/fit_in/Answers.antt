@@ -30,7 +30,7 @@ returns-in-Ok-Over-clause-serves g c =
     let over = subst (λ (v : Verdict). OfAccount m (λ account. IsVerdict (over_of m.setup.roots account gains c.size_of_file-octets.result) v)) c.in-Ok-Over.field-0-is judged in
     let over1 = subst (λ (o : ℕ). OfAccount m (λ account. over_of m.setup.roots account gains o ≡ Some (c.in-Ok-Over.root, c.in-Ok-Over.resource))) c.size_of_file-octets.ensures.value over in
     let moved = account_moved (Is_over c.args.from c.args.base c.args.to (message_in c.args.from c.args.file).octets c.in-Ok-Over.root c.in-Ok-Over.resource) s m c.fits.ensures.opened c.fits.ensures.history over1 in
-    noted c.args.caller (Move c.args.from c.args.base c.args.to) _ _ s m c.note.new.self (λ n n' calm. calm) (λ epoch rows. refl) (rw (c.as_slice.ensures.value, c.as_slice-2.ensures.value) at c.in-Ok-Over.ensures.settles) c.fits.ensures.opened c.fits.ensures.history
+    noted c.args.caller (Move c.args.from c.args.base c.args.to) _ _ s m c.note.new.self (λ n n' calm. calm) (λ epoch rows. refl) (rw (c.as_slice.ensures.value, c.as_slice-2.ensures.value) at c.in-Ok-Over.ensures.settles) c.fits.ensures.opened c.fits.ensures.history c.fits.ensures.order
     (c.in-Ok-Over.ensures.cause.kept (search rules)) (rw (c.as_slice.ensures.value, c.as_slice-2.ensures.value) at c.in-Ok-Over.ensures.settled)
     (of_both (λ account. MayMove account c.args.from c.args.base c.args.to (message_in c.args.from c.args.file))
     (Is_over c.args.from c.args.base c.args.to (message_in c.args.from c.args.file).octets c.in-Ok-Over.root c.in-Ok-Over.resource s.setup.roots)

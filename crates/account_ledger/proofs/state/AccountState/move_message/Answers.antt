@@ -49,7 +49,7 @@ returns-in-Ok-None-clause-serves g c =
     let both = of_both (λ account. true ≡ has_mailbox account c.args.from) (λ account. true ≡ has_mailbox account c.args.to) (λ account. (true ≡ has_mailbox account c.args.from) × (true ≡ has_mailbox account c.args.to)) (λ account e f. (e, f)) (account_of s) source target in
     let calm = c.in-Ok-None.ensures.cause.kept (search rules) in
     noted c.args.caller (Move c.args.from c.args.base c.args.to) _ NoMessage s n c.note-in-Ok-None.new.self (λ m m' still. still) (λ epoch rows. refl)
-    (settles_still _ s n c.find_file.ensures.stays c.find_file.ensures.rows) c.find_file.ensures.opened c.find_file.ensures.history calm (c.find_file.ensures.stays, calm)
+    (settles_still _ s n c.find_file.ensures.stays c.find_file.ensures.rows) c.find_file.ensures.opened c.find_file.ensures.history c.find_file.ensures.order calm (c.find_file.ensures.stays, calm)
     (of_both (λ account. (true ≡ has_mailbox account c.args.from) × (true ≡ has_mailbox account c.args.to)) (λ account. named_message c.args.from c.args.base account.messages ≡ None)
     (λ account. NoMessage ≡ move_reply s.setup.roots account c.args.from c.args.base c.args.to) (λ account e f. reply_missing s.setup.roots account c.args.from c.args.base c.args.to e.0 e.1 f) (account_of s) both none)
     c.note-in-Ok-None.ensures

@@ -19,7 +19,7 @@ returns-then-eq-clause-serves g c =
     let same : bytes_eq c.args.from c.args.to ≡ true = search rules in
     let box : c.args.from ≡ c.args.to = (bytes_eq-Decides c.args.from c.args.to).0 same in
     noted_on c.args.caller (Move c.args.from c.args.base c.args.to) _ Moved s c.note.new.self (λ n n' calm. rw same calm)
-    (same_box_rows c.args.from c.args.base c.args.to c.args.file s.told same box c.requires.found) (nothing_gained s.setup.roots c.args.from c.args.to (λ root. standing_at s.standings root ≡ Settled) box)
+    (same_box_rows c.args.from c.args.base c.args.to c.args.file s.told same box c.requires.found) c.is_in_order.ensures (nothing_gained s.setup.roots c.args.from c.args.to (λ root. standing_at s.standings root ≡ Settled) box)
     (of_weaker (IsThere c.args.from c.args.base c.args.to (message_in c.args.from c.args.file)) (λ account. Moved ≡ move_reply s.setup.roots account c.args.from c.args.base c.args.to)
     (λ account there. reply_same s.setup.roots account c.args.from c.args.base c.args.to (message_in c.args.from c.args.file) there same) (account_of s) c.requires.there)
     c.note.ensures

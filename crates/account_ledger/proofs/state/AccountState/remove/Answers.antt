@@ -37,7 +37,7 @@ returns-in-Ok-None-clause-serves g c =
     let there : OfAccount s (λ account. true ≡ has_mailbox account c.args.mailbox) = search rules in
     let calm = c.in-Ok-None.ensures.cause.kept (search rules) in
     noted c.args.caller (Remove c.args.mailbox c.args.base) _ NoMessage s n c.note-in-Ok-None.new.self (λ m m' still. still) (λ epoch rows. refl)
-    (settles_still _ s n c.find_file.ensures.stays c.find_file.ensures.rows) c.find_file.ensures.opened c.find_file.ensures.history calm (c.find_file.ensures.stays, calm)
+    (settles_still _ s n c.find_file.ensures.stays c.find_file.ensures.rows) c.find_file.ensures.opened c.find_file.ensures.history c.find_file.ensures.order calm (c.find_file.ensures.stays, calm)
     (of_both (λ account. true ≡ has_mailbox account c.args.mailbox) (λ account. named_message c.args.mailbox c.args.base account.messages ≡ None)
     (λ account. NoMessage ≡ message_reply account c.args.mailbox c.args.base Removed) (λ account e f. missing_replied account c.args.mailbox c.args.base Removed e f) (account_of s) there none)
     c.note-in-Ok-None.ensures

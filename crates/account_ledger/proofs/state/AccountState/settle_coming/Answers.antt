@@ -27,14 +27,6 @@ returns-in-Err-clause-settles g c =
       appends = c.settle_coming-settled.ensures.appends;
     })
 
-pub invariant_of-self-2 : goal.invariant_of-self-2
-invariant_of-self-2 g c =
-    let s = c.self.inside in
-    let n = c.settle_coming-settled.new in
-    order_settled (g.K.Keeper.told s.opened.value) (g.K.Keeper.told s.keeper) (g.K.Keeper.told n.keeper) (g.K.Keeper.faults s.opened.value) (g.K.Keeper.faults s.keeper) (g.K.Keeper.faults n.keeper)
-    s.setup s.epoch s.limits.items s.books.items n.books.items s.counts s.history.items (comes_under s.setup.roots (option_map (λ (m : Bor (List ℕ)). m.now) c.args.from) c.args.to.now)
-    c.self.invariant (rw c.deref.ensures.value at c.settle_coming-settled.ensures.files) c.settle_coming-settled.ensures.marks c.settle_coming-settled.ensures.small c.settle_coming-settled.ensures.cause.later
-
 pub returns-clause-settles : goal.returns-clause-settles
 returns-clause-settles g c =
     let s = c.self.inside in

@@ -103,8 +103,8 @@ returns-clause-writes g c =
         count = standings_count s.books.items p.books.items lined.count;
         standings = line_standings s.setup changes message.octets s.limits.items s.books.items p.books.items lined c.self.invariant.books_each;
         ledgers = line_ledgers s.setup changes message.octets s.limits.items s.books.items p.books.items lined c.self.invariant.books_each
-            (g.K.Keeper.told s.opened.value) (g.K.Keeper.told s.keeper) (g.K.Keeper.told n) (g.K.Keeper.told p.keeper) (g.K.Keeper.faults s.opened.value) (g.K.Keeper.faults p.keeper)
-            s.epoch (one_changed s.counts) _ order (shifted_ledgers s.setup.mailboxes (Some message) None (g.K.Keeper.told s.keeper) (g.K.Keeper.told n) shifts) lines;
+            (g.K.Keeper.told s.opened.value) (g.K.Keeper.told s.keeper) (g.K.Keeper.told n) (g.K.Keeper.told p.keeper) (g.K.Keeper.faults s.opened.value) (g.K.Keeper.faults s.keeper) (g.K.Keeper.faults p.keeper)
+            s.epoch s.counts (one_changed s.counts) s.history.items _ c.self.invariant order (shifted_ledgers s.setup.mailboxes (Some message) None (g.K.Keeper.told s.keeper) (g.K.Keeper.told n) shifts) lines;
         faults = fell_seen s.setup changes message.octets s.limits.items s.books.items p.books.items lined false (g.K.Keeper.faults s.keeper) (g.K.Keeper.faults n) (g.K.Keeper.faults p.keeper)
             (c.in_default.ensures.cause.kept (search rules))
             (subst (λ (o : ℕ). HasCauses (fell_below (length s.setup.roots) false (change_at s.setup.roots (Some c.args.mailbox) None) o s.books.items p.books.items) (g.K.Keeper.faults n) (g.K.Keeper.faults p.keeper)) c.size_of_file-octets.ensures.value
