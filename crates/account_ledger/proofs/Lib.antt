@@ -21,3 +21,4 @@ pub mod Served
 pub mod Opened
 pub mod Limiting
 pub mod Setting
+pub mod Seen

@@ -11,6 +11,7 @@ use Rattle.account_core.proofs.Admitting.{totals_at-usages, same_totals}
 use Rattle.account_ledger.specs.Messages.{message_in, messages_of, messages_in, StandFor}
 use Rattle.root_ledgers.specs.Scans.{cut, scan, scanned_octets, scanned_count, size_of_file}
 use Rattle.account_ledger.specs.States.{usage_at}
+use Rattle.account_ledger.specs.Order.{fresh_scan}
 use Rattle.root_ledgers.proofs.Sums.{same_sums, sum_map, sum_flat_map, sum_ones, sum_where}
 
 abbrev pub no_root : RootSpec
@@ -57,6 +58,10 @@ module _ (roots : List RootSpec) (root : ℕ) (inside : root < length roots) (ac
       ∙ sym (counted_in roots root inside rows (λ m. 1) (λ f. 1) (λ mailbox file. refl) mailboxes)
       ∙ ap (λ ms. counted spec (λ m. 1) (messages_in ms rows)) (sym same)
       ∙ stand (λ (m : Message). cond (governs spec m.mailbox) 1 0)
+
+  -- with no cut
+  pub fresh_is_usage : fresh_scan roots root mailboxes rows ≡ usage_at roots root account
+  fresh_is_usage = same_totals octets_are deliveries_are ∙ sym (totals_at-usages roots account root no_root inside)
 
   pub scan_is_usage : (entries : ℕ) → entries ≤ 524288 → sum_by (λ (m : Message). m.octets) account.messages ≤ 2 ^ 60 + 67108864 * entries → length account.messages ≤ 1048576 + entries
       → scan roots root mailboxes rows ≡ usage_at roots root account

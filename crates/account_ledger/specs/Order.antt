@@ -2,9 +2,11 @@
 use Rattle.std.specs.Prelude.{◌≡◌, ◌<◌, ◌≤◌, ◌+◌, ◌*◌, ◌-◌, ◌^◌, ℕ, min, List, length, sum_by, IfSome, Option}
 use Rattle.std.specs.List.{All}
 use Rattle.quota_units.specs.Limiting.{LimitNumbers}
+use Rattle.quota_units.specs.declared.totals.Totals.{Totals}
+use Rattle.quota_roots.specs.declared.root.RootSpec.{RootSpec}
 use Rattle.quota_roots.specs.Setups.{IsSound}
 use Rattle.quota_roots.specs.declared.setup.Setup.{Setup}
-use Rattle.keeper.specs.Files.{Files, ledger_at, ledger_bytes}
+use Rattle.keeper.specs.Files.{Files, Row, ledger_at, ledger_bytes}
 use Rattle.keeper.specs.Calls.{Told, Changes}
 use Rattle.admission.specs.Fitting.{limits_at}
 use Rattle.account_core.specs.declared.calls.Entry.{Entry}
@@ -16,7 +18,7 @@ use Rattle.account_ledger.specs.declared.counts.Counts.{Counts}
 use Rattle.root_ledgers.specs.declared.book.Book.{Book}
 use Rattle.root_ledgers.specs.declared.book.Standing.TheVariants.{Settled}
 use Rattle.account_ledger.specs.Messages.{StandFor, how_many}
-use Rattle.root_ledgers.specs.Scans.{AreSmall}
+use Rattle.root_ledgers.specs.Scans.{AreSmall, scanned_octets, scanned_count}
 use Rattle.root_ledgers.specs.Ledgers.{IsRight}
 use Rattle.root_ledgers.specs.Settling.{IsKept, book_at}
 use Rattle.account_ledger.specs.Opening.{opening_account}
@@ -29,9 +31,15 @@ pub record IsLegal (s : State) : Type 0 where
   pub served : AreServed s.history
   pub excused : min (s.first_faults + fault_count s.history) (2 ^ 64 - 1) ≤ s.faults
 
--- The files and the account agree: they stand for each other, no mailbox has a base twice, and the ledger of each settled root is right.
+-- a fresh scan: the sizes, and the number, of the files of the mailboxes that the root of this number governs
+abbrev pub fresh_scan : List RootSpec → ℕ → List (List ℕ) → List Row → Totals
+fresh_scan roots root mailboxes rows = record { octets = scanned_octets roots root mailboxes rows; count = scanned_count roots root mailboxes rows }
+
+-- The files and the account agree: they stand for each other, a fresh scan comes to the usage of each root, no mailbox has a base
+-- twice, and the ledger of each settled root is right, so that its sum is that of a fresh scan.
 pub record Agree (s : State) (account : Account) (files : Files) : Type 0 where
   pub stand : StandFor files.rows account
+  pub fresh : (root : ℕ) → root < length s.setup.roots → fresh_scan s.setup.roots root account.mailboxes files.rows ≡ usage_at s.setup.roots root account
   pub apart : (mailbox base : List ℕ) → how_many mailbox base account.messages ≤ 1
   pub right : (root : ℕ) → root < length s.setup.roots → standing_at s.standings root ≡ Settled
       → IsRight (limits_at account.limits root) (usage_at s.setup.roots root account) (ledger_at files root)
