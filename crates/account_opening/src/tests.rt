@@ -46,6 +46,9 @@ fn open(
     let ledgers = vec![in alloc; ledger]?;
     let mut keeper = MemKeeper::new(alloc, rows, ledgers, fails.to_vec(alloc)?)?;
     let setup = setup(alloc)?;
+    if setup.limits.as_slice().len() > 4 {
+        return Err("limits of at most four roots".into());
+    }
     Ok(admit_files(alloc, &mut keeper, &setup, 1700000000))
 }
 
@@ -85,7 +88,9 @@ fn a_refusal_names_the_first_255_bytes_of_a_base(rt: HostRuntime) -> Result<(), 
         let Err(OpenError::DoubleName { name }) = open(alloc, &files, None, &[])? else {
             return Err("a base that stands twice".into());
         };
-        assert_eq!(rt; name.as_slice(), &base[..length.min(255)]);
+        let mut shown = base.to_vec(alloc)?;
+        shown.truncate(255);
+        assert_eq!(rt; name.as_slice(), shown.as_slice());
 
         let mut used = b"1700000000.".to_vec(alloc)?;
         used.extend_from_slice(&base)?;
@@ -94,7 +99,8 @@ fn a_refusal_names_the_first_255_bytes_of_a_base(rt: HostRuntime) -> Result<(), 
         let Err(OpenError::EpochUsed { name }) = open(alloc, &files, None, &[])? else {
             return Err("a base of this epoch".into());
         };
-        assert_eq!(rt; name.as_slice(), &used[..255]);
+        used.truncate(255);
+        assert_eq!(rt; name.as_slice(), used.as_slice());
     }
     Ok(())
 }
