@@ -3,7 +3,6 @@ use Rattle.std.specs.Prelude.{◌≡◌, ℕ, true, List, [], ◌∷◌, Option,
 use Rattle.quota_units.specs.Limiting.{LimitNumbers}
 use Rattle.quota_units.specs.Flagging.{flags_among}
 use Rattle.quota_units.specs.declared.resource.Resource.TheVariants.{Storage, Message as Messages}
-use Rattle.quota_roots.specs.declared.root.RootSpec.{RootSpec}
 use Rattle.account_core.specs.declared.calls.Call.{Call}
 use Rattle.account_core.specs.declared.calls.Call.TheVariants.{Deliver, Check, Quota as QuotaCall, SetLimits, Roots as RootsCall, Status as StatusCall}
 use Rattle.account_core.specs.declared.calls.RootRow.{RootRow}
