@@ -1,4 +1,4 @@
--- Legal histories; and laws of deliveries and moves, over every history.
+-- What the entries of a legal history meet, and how many of them have fault; and laws of deliveries and moves, over every history.
 use Rattle.std.specs.Prelude.{◌≡◌, ◌≢◌, ◌≤◌, ◌↔◌, ℕ, true, false, if◌then◌else◌, List, [], ◌∷◌, ◌++◌, sum_by, codes, Some, None}
 use Rattle.quota_units.specs.Limiting.{LimitNumbers}
 use Rattle.quota_units.specs.declared.flags.Flags.{Flags}

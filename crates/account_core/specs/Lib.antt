@@ -12,4 +12,5 @@ pub mod Histories
 pub mod Generations
 pub mod Naming
 pub mod Worked
+pub mod WorkedLimits
 pub mod WholeScans

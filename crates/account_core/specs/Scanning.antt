@@ -9,7 +9,7 @@ use Rattle.account_core.specs.Messages.{sum_in}
 use Rattle.account_core.specs.Refusals.{in_mailbox, usages}
 
 -- how many messages a mailbox has, how many of them are unseen, how many are deleted, the octets of these, and those of all:
--- RFC 9051, section 6.3.11 (STATUS), and RFC 9208, section 4.1.4, for the deleted ones
+-- STATUS of RFC 9051, and of RFC 9208 for the deleted ones (DELETED, DELETED-STORAGE)
 abbrev pub status_of : List ℕ → List Message → Reply
 status_of mailbox messages = Status
     (sum_in mailbox (λ m. 1) messages)

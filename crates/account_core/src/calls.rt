@@ -49,7 +49,7 @@ pub enum Call {
     Roots {
         mailbox: Name,
     },
-    /// How many messages the mailbox of this name has, with their octets (RFC 9051, section 6.3.11; RFC 9208, section 4.1.4).
+    /// How many messages the mailbox of this name has, with their octets (STATUS of RFC 9051; DELETED and DELETED-STORAGE of RFC 9208).
     Status {
         mailbox: Name,
     },
@@ -79,7 +79,7 @@ pub struct RootRow {
 pub enum Reply {
     /// The account has no mailbox of that name.
     NoMailbox,
-    /// The message would take this resource of this root above its limit (RFC 9208, section 4.3.1).
+    /// The message would take this resource of this root above its limit (OVERQUOTA of RFC 9208).
     Over {
         root: u32,
         resource: Resource,

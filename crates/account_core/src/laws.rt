@@ -2,6 +2,7 @@ ghost use Rattle.account_core.specs.Generations.{EqualGenerationEqualUsage, Gene
 ghost use Rattle.account_core.specs.Forms.{RepliesHaveForm};
 ghost use Rattle.account_core.specs.Naming.{NamesStayApart};
 ghost use Rattle.account_core.specs.Worked.{MessagesAreCounted, MovesAreAnswered, ScansAreAnswered};
+ghost use Rattle.account_core.specs.WorkedLimits.{ChecksAreAnswered, DeliveriesAreAnswered, LimitsAreAnswered, RootsAreNamed};
 ghost use Rattle.account_core.specs.WholeScans.{WholeScanIsUsage};
 ghost use Rattle.account_core.specs.Legality.{MoveOverWhereNoFit, NoneBroken, NoneBrokenByMoves, OverWhereNoFit};
 
@@ -55,10 +56,15 @@ pub fn replies_have_their_form()
     ensures { RepliesHaveForm }
 {}
 
-/// Worked accounts: moves out of Trash, into it and within a mailbox; messages that are moved, marked, removed and counted; and
-/// scans that are begun, made in parts, and installed or refused.
+/// Worked accounts: moves out of Trash, into it and within a mailbox; messages that are moved, marked, removed and counted;
+/// scans that are begun, made in parts, and installed or refused; deliveries and checks up to a limit and above it; the root and
+/// the resource that a refusal names; and limits that are changed.
 pub fn worked_accounts_are_answered_so()
     ensures moves { MovesAreAnswered }
     ensures counts { MessagesAreCounted }
     ensures scans { ScansAreAnswered }
+    ensures deliveries { DeliveriesAreAnswered }
+    ensures checks { ChecksAreAnswered }
+    ensures roots { RootsAreNamed }
+    ensures limits { LimitsAreAnswered }
 {}

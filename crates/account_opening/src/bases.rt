@@ -5,7 +5,7 @@ ghost use Rattle.account_opening.specs.Bases.{AreApart, AreNoted, base_in, doubl
 
 use keeper::FileRow;
 use message_names::parse_name;
-use quota_units::Name;
+use quota_units::{Name, NameError};
 use std::alloc::{AllocError, Global};
 use std::collections::BTreeMap;
 
@@ -95,6 +95,7 @@ fn show(alloc: Global, base: &[u8]) -> Result<Name, AllocError>
     let end = base.len().min(255);
     match Name::of(alloc, &base[..end]) {
         Ok(name) => Ok(name),
-        Err(_) => Err(AllocError),
+        Err(NameError::NoMemory) => Err(AllocError),
+        Err(NameError::TooLong { .. }) => unreachable!(),
     }
 }

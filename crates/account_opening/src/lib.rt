@@ -9,3 +9,6 @@ mod limits;
 
 pub use admit::admit_files;
 pub use error::OpenError;
+
+#[cfg(test)]
+mod tests;

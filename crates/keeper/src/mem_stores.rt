@@ -1,4 +1,4 @@
-ghost use Rattle.std.specs.Prelude.{◌≡◌, ◌<◌, ◌↔◌, nat_lt, if◌then◌else◌, length, position, bytes_eq, Some, None, IfOk, IfErr, IfSome, IsErrOf};
+ghost use Rattle.std.specs.Prelude.{◌≡◌, ◌<◌, ◌↔◌, nat_lt, is_some, if◌then◌else◌, length, position, bytes_eq, Some, None, IfOk, IfErr, IfSome, IsErrOf};
 ghost use Rattle.std.specs.Option.{option_map};
 ghost use Rattle.keeper.specs.Causes.{HasCause, next_count};
 ghost use Rattle.keeper.specs.Calls.{Changes};
@@ -84,6 +84,7 @@ impl Stores for MemStores {
         ensures cause { HasCause (IsErrOf result KeepError.Failed) self.old.faults self.new.faults }
         ensures fails { IsErrOf result KeepError.Failed ↔ (keeper_in account.now self.old.accounts ≡ None) }
         ensures memory { IfErr result (λ e. e ≡ KeepError.Failed) }
+        ensures count { self.new.faults ≡ (if is_some (keeper_in account.now self.old.accounts) then self.old.faults else next_count self.old.faults) }
         ensures keeper { IfOk result (λ keeper. option_map forgiven (keeper_in account.now self.old.accounts) ≡ Some keeper) }
     {
         match take(&mut self.keepers, account) {
