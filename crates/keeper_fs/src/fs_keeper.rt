@@ -100,7 +100,7 @@ impl<R: Files + AllocGlobal + Clone + Drop> Keeper for FsKeeper<R> {
         ensures folder { folder_of self.new ≡ folder_of self.old }
         // Only a name that leads to no other folder is looked for.
         ensures outside { is_file_name mailbox.now ≡ false → IsErrOf result KeepError.Failed }
-        // Only a file whose name other calls take is listed, and only where its name states no size is it asked for its length.
+        // Only a file whose name other calls take is listed, with the size that its name states as its length, where it states one.
         ensures rows { IfOk result (λ rows. All IsMessageRow rows.items) }
     {
         self.lists = self.lists.saturating_add(1);

@@ -20,7 +20,7 @@ pub struct FsStores<R> {
 }
 
 impl<R: Files + AllocGlobal + Clone + Drop> FsStores<R> {
-    /// The accounts below a folder.
+    /// The accounts below a folder. Where its path is no text, or empty, no account can be opened.
     pub fn new(rt: R, folder: Vec<u8>) -> FsStores<R>
         ensures none { store_faults_of result ≡ 0 }
         ensures folder { store_folder_of result ≡ folder.items }
