@@ -1,15 +1,22 @@
 -- Names that stand twice.
-use Rattle.std.proofs.Common.{◌≡◌, ℕ, ◌+◌, ◌<◌, ◌≤◌, Bool, true, false, not, ◌||◌, cond, List, [], ◌∷◌, ◌++◌, length, map, take, drop, get_or, bytes_eq, Option, None, Some, arith, refl, ◌∙◌, sym, ap, inl, inr, append_assoc, ◌⊎◌, subst}
+use Rattle.std.proofs.Common.{◌≡◌, ℕ, ◌+◌, ◌<◌, ◌≤◌, Bool, true, false, not, ◌||◌, cond, List, [], ◌∷◌, ◌++◌, length, map, take, drop, get_or, bytes_eq, Option, None, Some, is_some, arith, refl, ◌∙◌, sym, ap, inl, inr, append_assoc, ◌⊎◌, subst}
+use Rattle.std.specs.Prelude.{Vec}
 use Rattle.std.specs.List.{list_any, list_all}
 use Rattle.std.proofs.lemmas.List.Folds.{list_any-append}
 use Rattle.std.proofs.lemmas.Slice.Eq.{bytes_eq-Decides}
 use Rattle.std.proofs.lemmas.Bool.Decides.{same_from_decides}
 use Rattle.std.proofs.lemmas.Bool.{and_parts}
-use Rattle.std.proofs.lemmas.List.{at_drop_more, at_drop_all, take_more, append-nil}
+use Rattle.std.proofs.lemmas.List.{at_drop_more, at_drop_all, take_more, append-nil, get_or-map}
 use Rattle.quota_roots.specs.Setups.{are_different}
 use Rattle.accounts_file.specs.declared.entry.AccountEntry.{AccountEntry}
 use Rattle.accounts_file.specs.declared.error.AccountsError.{AccountsError}
-use Rattle.accounts_file.specs.Doubles.{all_recipients, doubles_refusal, first_repeat, has_same, own_double, repeated, repeated_in_any_case}
+use Rattle.std.specs.BTreeMap.{BTreeMap, UpdatesBy, get_by}
+use Rattle.std.specs.Cmp.Lexicographic.{slice_cmp}
+use Rattle.std.specs.Ordering.{nat_cmp}
+use Rattle.std.specs.Str.{str_eq_ignore_ascii_case, str_to_ascii_lowercase}
+use Rattle.std.proofs.lemmas.Map.Text.{btree_map_updates_str}
+use denote.Ref.{Bor}
+use Rattle.accounts_file.specs.Doubles.{AreNoted, all_recipients, doubles_refusal, first_repeat, has_same, is_noted, own_double, repeated, repeated_in_any_case}
 use Rattle.accounts_file.specs.Hosts.{AreDifferent}
 use Rattle.accounts_file.specs.Refusals.{double, first_in}
 use Rattle.accounts_file.specs.declared.error.AccountsError.TheVariants.{NoMemory}
@@ -38,6 +45,49 @@ pub repeat_nowhere : (same : List ℕ → List ℕ → Bool) (names : List (List
 repeat_nowhere same names far =
     let all : length names ≤ length names = omega arith in
     sym far ∙ at_drop_all (first_repeat same (take (length names) names)) names (length names) all
+
+some_or : {X : Type 0} (here : Bool) (x : X) (old : Option X) → is_some (cond here (Some x) old) ≡ (here || is_some old)
+some_or true x old = refl
+some_or false x old = refl
+
+-- one more text is noted
+pub noted_one : {X : Type 0} (text : List ℕ) (old new : BTreeMap (Bor (List ℕ)) X) (x : X) → UpdatesBy (λ a b. slice_cmp nat_cmp a.now b.now) (λ k. slice_cmp nat_cmp text k.now) old new (Some x)
+    → (other : List ℕ) → is_noted new other ≡ (bytes_eq text other || is_noted old other)
+noted_one {X} text old new x updates other =
+    ap (λ (o : Option X). is_some o) (btree_map_updates_str text old new (Some x) updates other) ∙ some_or (bytes_eq text other) x (get_by (λ k. slice_cmp nat_cmp other k.now) old)
+
+or_last : (before here : Bool) → (here || before) ≡ (before || (here || false))
+or_last true true = refl
+or_last true false = refl
+or_last false true = refl
+or_last false false = refl
+
+abbrev is_lower : List ℕ → List ℕ → Bool
+is_lower text name = bytes_eq (str_to_ascii_lowercase name) text
+
+-- the place of a name in lower case
+pub lower_at : {A : Type 0} (names : List (List ℕ)) (lower : List (Vec ℕ A)) (at : ℕ) (d : List ℕ) (e : Vec ℕ A) → map (λ (name : Vec ℕ A). name.items) lower ≡ map str_to_ascii_lowercase names
+    → length lower ≡ length names → at < length names → (get_or lower at e).items ≡ str_to_ascii_lowercase (get_or names at d)
+lower_at {A} names lower at d e all count within =
+    let inside : at < length lower = omega (arith, count, within) in
+    sym (get_or-map (λ (name : Vec ℕ A). name.items) lower at e [] inside) ∙ ap (λ l. get_or l at []) all ∙ get_or-map str_to_ascii_lowercase names at d [] within
+
+-- one more name is noted
+pub noted_more : {X : Type 0} (names : List (List ℕ)) (at : ℕ) (d here : List ℕ) (old new : BTreeMap (Bor (List ℕ)) X) → at < length names → here ≡ str_to_ascii_lowercase (get_or names at d)
+    → ((other : List ℕ) → is_noted new other ≡ (bytes_eq here other || is_noted old other)) → AreNoted old (take at names) → AreNoted new (take (at + 1) names)
+noted_more names at d here old new within is writes noted text =
+    let name = get_or names at d in
+    writes text
+    ∙ ap (λ h. bytes_eq h text || is_noted old text) is
+    ∙ ap (λ b. is_lower text name || b) (noted text)
+    ∙ or_last (list_any (is_lower text) (take at names)) (is_lower text name)
+    ∙ sym (list_any-append (is_lower text) (take at names) (name ∷ []))
+    ∙ ap (list_any (is_lower text)) (sym (take_more names at d within))
+
+-- a name was noted exactly where it stood before, in any ASCII case
+pub noted_before : {X : Type 0} (names : List (List ℕ)) (at : ℕ) (d here : List ℕ) (notes : BTreeMap (Bor (List ℕ)) X) → here ≡ str_to_ascii_lowercase (get_or names at d) → AreNoted notes (take at names)
+    → is_noted notes here ≡ has_same str_eq_ignore_ascii_case (take at names) (get_or names at d)
+noted_before names at d here notes is noted = ap (is_noted notes) is ∙ noted (str_to_ascii_lowercase (get_or names at d))
 
 recipients_push : (accounts : List AccountEntry) (account : AccountEntry) → all_recipients (accounts ++ account ∷ []) ≡ all_recipients accounts ++ account.recipients
 recipients_push [] account = append-nil account.recipients

@@ -1,8 +1,12 @@
 -- Names that stand twice in an accounts file.
-use Rattle.std.specs.Prelude.{ℕ, Bool, List, [], ◌∷◌, ◌++◌, map, bytes_eq, Option, None, Some, if◌then◌else◌}
+use Rattle.std.specs.Prelude.{◌≡◌, ℕ, Bool, List, [], ◌∷◌, ◌++◌, map, bytes_eq, Option, None, Some, is_some, if◌then◌else◌}
 use Rattle.std.specs.List.{list_any}
 use Rattle.std.specs.Option.{option_map}
-use Rattle.std.specs.Str.{str_eq_ignore_ascii_case}
+use Rattle.std.specs.Str.{str_eq_ignore_ascii_case, str_to_ascii_lowercase}
+use Rattle.std.specs.BTreeMap.{BTreeMap, get_by}
+use Rattle.std.specs.Cmp.Lexicographic.{slice_cmp}
+use Rattle.std.specs.Ordering.{nat_cmp}
+use denote.Ref.{Bor}
 use Rattle.quota_roots.specs.declared.root.RootSpec.{RootSpec}
 use Rattle.quota_roots.specs.RootLists.{first_double, name_at}
 use Rattle.accounts_file.specs.declared.entry.AccountEntry.{AccountEntry}
@@ -25,6 +29,14 @@ repeated names = first_repeat bytes_eq [] names
 -- the same, where the case of ASCII letters plays no part
 abbrev pub repeated_in_any_case : List (List ℕ) → Option (List ℕ)
 repeated_in_any_case names = first_repeat str_eq_ignore_ascii_case [] names
+
+-- a text is noted
+abbrev pub is_noted : {X : Type 0} → BTreeMap (Bor (List ℕ)) X → List ℕ → Bool
+is_noted notes text = is_some (get_by (λ key. slice_cmp nat_cmp text key.now) notes)
+
+-- these names are noted in lower case, and no other text is
+abbrev pub AreNoted : {X : Type 0} → BTreeMap (Bor (List ℕ)) X → List (List ℕ) → Type 0
+AreNoted notes names = (text : List ℕ) → is_noted notes text ≡ list_any (λ name. bytes_eq (str_to_ascii_lowercase name) text) names
 
 -- the name of the first root whose name stood before
 abbrev pub repeated_root : List RootSpec → Option (List ℕ)

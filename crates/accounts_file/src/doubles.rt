@@ -1,9 +1,9 @@
-ghost use Rattle.std.specs.Prelude.{◌≡◌, ◌<◌, ◌++◌, ◌⊎◌, bytes_eq, length, map, None, Some, All, IfOk, IfErr, IfSome, OnOk};
+ghost use Rattle.std.specs.Prelude.{◌≡◌, ◌<◌, ◌++◌, ◌⊎◌, ◌||◌, ℕ, List, bytes_eq, length, map, None, Some, All, IfOk, IfErr, IfSome, OnOk};
 ghost use Rattle.std.specs.Option.{option_map};
-ghost use Rattle.std.specs.Str.{str_eq_ignore_ascii_case};
+ghost use Rattle.std.specs.Str.{str_to_ascii_lowercase};
 ghost use Rattle.quota_roots.specs.RootLists.{first_double, has_name};
 ghost use Rattle.quota_roots.specs.Setups.{IsSound};
-ghost use Rattle.accounts_file.specs.Doubles.{all_recipients, doubles_refusal, has_same, own_double, repeated, repeated_in_any_case, repeated_root};
+ghost use Rattle.accounts_file.specs.Doubles.{all_recipients, doubles_refusal, has_same, is_noted, own_double, repeated, repeated_in_any_case, repeated_root};
 ghost use Rattle.accounts_file.specs.Hosts.{AreDifferent};
 ghost use Rattle.accounts_file.specs.Refusals.{double, first_in, Checks, Reads};
 
@@ -14,22 +14,14 @@ use crate::roots::roots_of;
 use crate::values::name_of;
 use quota_roots::{LimitsList, RootSpec, Setup};
 use quota_units::Name;
-use std::alloc::Global;
+use std::alloc::{AllocError, Global};
+use std::collections::BTreeMap;
 
 fn has(names: &[Name], name: &Name) -> bool
     ensures { result ≡ has_same bytes_eq names.now name.now }
 {
     let bytes = name.as_slice();
     names.iter().any(|other| other.as_slice() == bytes)
-}
-
-fn has_in_any_case(names: &[Name], name: &Name) -> bool
-    ensures { result ≡ has_same str_eq_ignore_ascii_case names.now name.now }
-{
-    let bytes = name.as_slice();
-    names
-        .iter()
-        .any(|other| other.as_slice().eq_ignore_ascii_case(bytes))
 }
 
 /// The first of the names that stood before.
@@ -45,17 +37,43 @@ fn repeated(names: &[Name]) -> Option<&Name>
     None
 }
 
-/// The first of the names that stood before, in any ASCII case.
-#[tactic(auto, using(crate::proofs::DoubleLemmas::repeat_here, crate::proofs::DoubleLemmas::repeat_on, crate::proofs::DoubleLemmas::repeat_nowhere))]
-fn repeated_in_any_case(names: &[Name]) -> Option<&Name>
-    ensures { option_map (λ name. name.now) result ≡ repeated_in_any_case names.now }
+/// The names in lower case, by which they are compared in any ASCII case.
+fn in_lower_case(alloc: Global, names: &[Name]) -> Result<Vec<Vec<u8>>, AllocError>
+    ensures texts { IfOk result (λ lower. map (λ name. name.items) lower.items ≡ map str_to_ascii_lowercase names.now) }
+    ensures count { IfOk result (λ lower. length lower.items ≡ length names.now) }
 {
+    let mut lower = Vec::new(alloc);
+    for name in names {
+        lower.push(name.as_slice().to_ascii_lowercase(alloc)?)?;
+    }
+    Ok(lower)
+}
+
+/// Notes a text, and tells whether it was noted before.
+#[tactic(auto, using(crate::proofs::DoubleLemmas::noted_one))]
+fn note<'a>(notes: &mut BTreeMap<&'a [u8], ()>, text: &'a [u8]) -> Result<bool, AllocError>
+    ensures again { IfOk result (λ again. again ≡ is_noted notes.old text.now) }
+    ensures notes { OnOk result ((other : List ℕ) → is_noted notes.new other ≡ (bytes_eq text.now other || is_noted notes.old other)) }
+{
+    Ok(notes.insert(text, ())?.is_some())
+}
+
+/// The first of the names that stood before, in any ASCII case.
+#[tactic(auto, using(crate::proofs::DoubleLemmas::repeat_here, crate::proofs::DoubleLemmas::repeat_on, crate::proofs::DoubleLemmas::repeat_nowhere, crate::proofs::DoubleLemmas::noted_more, crate::proofs::DoubleLemmas::noted_before, crate::proofs::DoubleLemmas::lower_at))]
+fn repeated_in_any_case<'a>(
+    alloc: Global,
+    names: &'a [Name],
+) -> Result<Option<&'a Name>, AllocError>
+    ensures { IfOk result (λ found. option_map (λ name. name.now) found ≡ repeated_in_any_case names.now) }
+{
+    let lower = in_lower_case(alloc, names)?;
+    let mut notes = BTreeMap::new(alloc);
     for (at, name) in names.iter().enumerate() {
-        if has_in_any_case(&names[..at], name) {
-            return Some(name);
+        if note(&mut notes, lower[at].as_slice())? {
+            return Ok(Some(name));
         }
     }
-    None
+    Ok(None)
 }
 
 /// The refusal of a name that stands twice.
@@ -82,7 +100,7 @@ fn check_names(alloc: Global, names: &[Name]) -> Result<(), AccountsError>
 fn check_recipients(alloc: Global, addresses: &[Name]) -> Result<(), AccountsError>
     ensures { Checks (double (repeated_in_any_case addresses.now)) result }
 {
-    match repeated_in_any_case(addresses) {
+    match repeated_in_any_case(alloc, addresses)? {
         None => Ok(()),
         Some(address) => Err(double_of(alloc, address)),
     }

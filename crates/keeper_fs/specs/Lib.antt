@@ -1,3 +1,4 @@
 pub mod Names
+pub mod Paths
 pub mod Real
 pub mod Rows

@@ -1,5 +1,6 @@
--- Keepers and stores over folders: their counts, which is all that they tell.
-use Rattle.std.specs.Prelude.{ℕ}
+-- Keepers and stores over folders: their counts and where their files are. What the files hold is not told.
+use Rattle.std.specs.Prelude.{ℕ, List}
+use Rattle.std.specs.String.{string_bytes}
 use Rattle.keeper_fs.specs.declared.fs_keeper.FsKeeper.{FsKeeper}
 use Rattle.keeper_fs.specs.declared.fs_stores.FsStores.{FsStores}
 
@@ -15,6 +16,14 @@ append_faults_of keeper = keeper.append_faults
 abbrev pub lists_of : {R : Type 0} → FsKeeper R → ℕ
 lists_of keeper = keeper.lists
 
+-- the path of a keeper's account
+abbrev pub folder_of : {R : Type 0} → FsKeeper R → List ℕ
+folder_of keeper = string_bytes keeper.folder
+
 -- how often a call of stores has failed
 abbrev pub store_faults_of : {R : Type 0} → FsStores R → ℕ
 store_faults_of stores = stores.faults
+
+-- the path below which stores have their accounts
+abbrev pub store_folder_of : {R : Type 0} → FsStores R → List ℕ
+store_folder_of stores = stores.folder.items

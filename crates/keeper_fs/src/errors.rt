@@ -1,11 +1,14 @@
-ghost use Rattle.std.specs.Prelude.{◌≡◌};
+ghost use Rattle.std.specs.Prelude.{◌≡◌, ◌↔◌, None};
+ghost use Rattle.std.specs.IoError.{error_kind, raw_os_error};
 
 use keeper::KeepError;
 use std::io;
 use std::io::ErrorKind;
 
 /// The cause of an error: `NoMemory` where memory was wanted, and `Failed` where the system has failed, whatever it says.
-pub(crate) fn cause(error: io::Error) -> KeepError {
+pub(crate) fn cause(error: io::Error) -> KeepError
+    ensures { (result ≡ KeepError.NoMemory) ↔ ((error_kind error ≡ ErrorKind.OutOfMemory) × (raw_os_error error ≡ None)) }
+{
     if error.kind() == ErrorKind::OutOfMemory && error.raw_os_error().is_none() {
         KeepError::NoMemory
     } else {

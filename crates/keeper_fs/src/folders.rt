@@ -1,3 +1,7 @@
+ghost use Rattle.std.specs.Prelude.{◌≡◌, IfOk};
+ghost use Rattle.std.specs.String.{string_bytes};
+ghost use Rattle.keeper_fs.specs.Paths.{IsMailbox, mailbox_folder, path_in};
+
 use std::alloc::{AllocError, Global};
 use std::fs::Files;
 use std::{fs, io};
@@ -13,23 +17,24 @@ pub(crate) struct Mailbox {
 impl Mailbox {
     /// The folders of a mailbox of the account in this folder: those of INBOX stand in it, and those of another mailbox in
     /// its folder `.<mailbox>` (Maildir++).
-    pub(crate) fn of(alloc: Global, account: &str, mailbox: &str) -> Result<Mailbox, AllocError> {
+    pub(crate) fn of(alloc: Global, account: &str, mailbox: &str) -> Result<Mailbox, AllocError>
+        ensures { IfOk result (IsMailbox (mailbox_folder account.now mailbox.now)) }
+    {
         if mailbox == "INBOX" {
-            return Mailbox::inbox(alloc, account);
+            return Mailbox::within(alloc, account);
         }
-        Ok(Mailbox {
-            tmp: format!(in alloc; "{account}/.{mailbox}/tmp")?,
-            new: format!(in alloc; "{account}/.{mailbox}/new")?,
-            cur: format!(in alloc; "{account}/.{mailbox}/cur")?,
-        })
+        let folder = format!(in alloc; "{account}/.{mailbox}")?;
+        Mailbox::within(alloc, folder.as_str())
     }
 
-    /// The folders of INBOX.
-    pub(crate) fn inbox(alloc: Global, account: &str) -> Result<Mailbox, AllocError> {
+    /// The folders of the mailbox whose folder this is.
+    pub(crate) fn within(alloc: Global, folder: &str) -> Result<Mailbox, AllocError>
+        ensures { IfOk result (IsMailbox folder.now) }
+    {
         Ok(Mailbox {
-            tmp: format!(in alloc; "{account}/tmp")?,
-            new: format!(in alloc; "{account}/new")?,
-            cur: format!(in alloc; "{account}/cur")?,
+            tmp: path_in(alloc, folder, "tmp")?,
+            new: path_in(alloc, folder, "new")?,
+            cur: path_in(alloc, folder, "cur")?,
         })
     }
 
@@ -43,6 +48,8 @@ impl Mailbox {
 }
 
 /// The path of a file in a folder.
-pub(crate) fn path_in(alloc: Global, folder: &str, name: &str) -> Result<String, AllocError> {
+pub(crate) fn path_in(alloc: Global, folder: &str, name: &str) -> Result<String, AllocError>
+    ensures { IfOk result (λ path. string_bytes path ≡ path_in folder.now name.now) }
+{
     format!(in alloc; "{folder}/{name}")
 }

@@ -1,8 +1,9 @@
-ghost use Rattle.std.specs.Prelude.{◌≡◌, ◌≤◌, ◌<◌, ◌&&◌, ℕ, None, false, Option, IsErr, IsErrOf, IfOk, All};
+ghost use Rattle.std.specs.Prelude.{◌≡◌, ◌≤◌, ◌<◌, ◌&&◌, ℕ, None, false, Option, length, IsErr, IsErrOf, IfOk, All};
+ghost use Rattle.std.specs.String.{string_bytes};
 ghost use Rattle.keeper.specs.Causes.{HasCause, next_count};
 ghost use Rattle.keeper_fs.specs.Names.{is_file_name};
 ghost use Rattle.keeper_fs.specs.Rows.{IsMessageRow};
-ghost use Rattle.keeper_fs.specs.Real.{faults_of, append_faults_of, lists_of};
+ghost use Rattle.keeper_fs.specs.Real.{faults_of, append_faults_of, folder_of, lists_of};
 
 use crate::{ledgers, listing, messages};
 use keeper::{Failed, FileRow, KeepError, Keeper};
@@ -13,7 +14,8 @@ use std::fs::Files;
 ///
 /// A message of INBOX is a file in `new` or `cur` of the folder, and one of another mailbox in `new` or `cur` of the folder's
 /// folder `.<mailbox>`. The ledger of root 0 is the file `maildirsize`, and that of root k `maildirsize.<k>`. Each `Err` of the
-/// system is a fault, and so is want of memory where a call has no answer for it.
+/// system is a fault, and so is want of memory where a call has no answer for it, a file that is to be renamed or removed and is
+/// not there, a name that is taken, and a line for which a ledger has no room.
 #[derive(Drop)]
 pub struct FsKeeper<R> {
     rt: R,
@@ -29,6 +31,7 @@ impl<R: Files + AllocGlobal + Clone + Drop> FsKeeper<R> {
         ensures faults { faults_of result ≡ 0 }
         ensures appends { append_faults_of result ≡ 0 }
         ensures listings { lists_of result ≡ 0 }
+        ensures folder { folder_of result ≡ string_bytes folder }
     {
         FsKeeper {
             rt,
@@ -60,6 +63,7 @@ impl<R: Files + AllocGlobal + Clone + Drop> FsKeeper<R> {
         ensures later { faults_of self.old ≤ faults_of self.new }
         ensures appends { append_faults_of self.new ≡ append_faults_of self.old }
         ensures listings { lists_of self.new ≡ lists_of self.old }
+        ensures folder { folder_of self.new ≡ folder_of self.old }
     {
         self.faults = self.faults.saturating_add(1);
         Failed
@@ -71,6 +75,7 @@ impl<R: Files + AllocGlobal + Clone + Drop> FsKeeper<R> {
         ensures cause { HasCause (IsErrOf answer KeepError.Failed) (faults_of self.old) (faults_of self.new) }
         ensures appends { append_faults_of self.new ≡ append_faults_of self.old }
         ensures listings { lists_of self.new ≡ lists_of self.old }
+        ensures folder { folder_of self.new ≡ folder_of self.old }
     {
         if let Err(KeepError::Failed) = &answer {
             self.fail();
@@ -92,9 +97,10 @@ impl<R: Files + AllocGlobal + Clone + Drop> Keeper for FsKeeper<R> {
         ensures cause { HasCause (IsErrOf result KeepError.Failed) (faults_of self.old) (faults_of self.new) }
         ensures appends { append_faults_of self.new ≡ append_faults_of self.old }
         ensures listings { lists_of self.new ≡ next_count (lists_of self.old) }
+        ensures folder { folder_of self.new ≡ folder_of self.old }
         // Only a name that leads to no other folder is looked for.
         ensures outside { is_file_name mailbox.now ≡ false → IsErrOf result KeepError.Failed }
-        // Only a file whose name other calls take is listed, and only where its name states no size is it asked for its length.
+        // Only a file whose name other calls take is listed, with the size that its name states as its length, where it states one.
         ensures rows { IfOk result (λ rows. All IsMessageRow rows.items) }
     {
         self.lists = self.lists.saturating_add(1);
@@ -112,6 +118,7 @@ impl<R: Files + AllocGlobal + Clone + Drop> Keeper for FsKeeper<R> {
         ensures cause { HasCause (IsErrOf result KeepError.Failed) (faults_of self.old) (faults_of self.new) }
         ensures appends { append_faults_of self.new ≡ append_faults_of self.old }
         ensures listings { lists_of self.new ≡ lists_of self.old }
+        ensures folder { folder_of self.new ≡ folder_of self.old }
         // Only names that lead to no other folder are written.
         ensures outside { (is_file_name mailbox.now && is_file_name name.now) ≡ false → IsErrOf result KeepError.Failed }
     {
@@ -130,6 +137,7 @@ impl<R: Files + AllocGlobal + Clone + Drop> Keeper for FsKeeper<R> {
         ensures cause { HasCause (IsErrOf result KeepError.Failed) (faults_of self.old) (faults_of self.new) }
         ensures appends { append_faults_of self.new ≡ append_faults_of self.old }
         ensures listings { lists_of self.new ≡ lists_of self.old }
+        ensures folder { folder_of self.new ≡ folder_of self.old }
         // Only names that lead to no other folder are renamed.
         ensures outside { (is_file_name from.now && (is_file_name name.now && (is_file_name to.now && is_file_name new_name.now))) ≡ false → IsErrOf result KeepError.Failed }
     {
@@ -142,6 +150,7 @@ impl<R: Files + AllocGlobal + Clone + Drop> Keeper for FsKeeper<R> {
         ensures cause { HasCause (IsErr result) (faults_of self.old) (faults_of self.new) }
         ensures appends { append_faults_of self.new ≡ append_faults_of self.old }
         ensures listings { lists_of self.new ≡ lists_of self.old }
+        ensures folder { folder_of self.new ≡ folder_of self.old }
         // Only a name that leads to no other folder is removed.
         ensures outside { (is_file_name mailbox.now && is_file_name name.now) ≡ false → IsErr result }
     {
@@ -157,12 +166,26 @@ impl<R: Files + AllocGlobal + Clone + Drop> Keeper for FsKeeper<R> {
         }
     }
 
-    fn read_ledger(&mut self, alloc: Global, root: u32) -> Result<Option<Vec<u8>>, KeepError> {
+    fn read_ledger(&mut self, alloc: Global, root: u32) -> Result<Option<Vec<u8>>, KeepError>
+        requires { root < 4 }
+        ensures cause { HasCause (IsErrOf result KeepError.Failed) (faults_of self.old) (faults_of self.new) }
+        ensures appends { append_faults_of self.new ≡ append_faults_of self.old }
+        ensures listings { lists_of self.new ≡ lists_of self.old }
+        ensures folder { folder_of self.new ≡ folder_of self.old }
+    {
         let answer = ledgers::read(&self.rt, alloc, self.folder.as_str(), root);
         self.counted(answer)
     }
 
-    fn append_ledger(&mut self, root: u32, line: &[u8]) -> Result<(), Failed> {
+    fn append_ledger(&mut self, root: u32, line: &[u8]) -> Result<(), Failed>
+        requires { root < 4 }
+        ensures cause { HasCause (IsErr result) (append_faults_of self.old) (append_faults_of self.new) }
+        ensures others { faults_of self.new ≡ faults_of self.old }
+        ensures listings { lists_of self.new ≡ lists_of self.old }
+        ensures folder { folder_of self.new ≡ folder_of self.old }
+        // No ledger has room for such a line. Whether one has room for a shorter line, its file says.
+        ensures long { 5120 ≤ length line.now → IsErr result }
+    {
         match ledgers::append(&self.rt, self.rt.alloc(), self.folder.as_str(), root, line) {
             Ok(()) => Ok(()),
             Err(_) => {
@@ -172,7 +195,14 @@ impl<R: Files + AllocGlobal + Clone + Drop> Keeper for FsKeeper<R> {
         }
     }
 
-    fn install_ledger(&mut self, root: u32, text: &[u8]) -> Result<(), Failed> {
+    fn install_ledger(&mut self, root: u32, text: &[u8]) -> Result<(), Failed>
+        requires root { root < 4 }
+        requires room { length text.now < 5120 }
+        ensures cause { HasCause (IsErr result) (faults_of self.old) (faults_of self.new) }
+        ensures appends { append_faults_of self.new ≡ append_faults_of self.old }
+        ensures listings { lists_of self.new ≡ lists_of self.old }
+        ensures folder { folder_of self.new ≡ folder_of self.old }
+    {
         match ledgers::install(&self.rt, self.rt.alloc(), self.folder.as_str(), root, text) {
             Ok(()) => Ok(()),
             Err(_) => Err(self.fail()),

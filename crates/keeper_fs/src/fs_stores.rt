@@ -1,12 +1,13 @@
-ghost use Rattle.std.specs.Prelude.{◌≡◌, ◌<◌, ℕ, None, false, Option, List, IfOk, IsErrOf};
+ghost use Rattle.std.specs.Prelude.{◌≡◌, ◌<◌, ℕ, None, true, false, Option, List, IfOk, IfErr, IsErrOf};
+ghost use Rattle.std.specs.String.{string_bytes};
 ghost use Rattle.keeper.specs.Causes.{HasCause};
-ghost use Rattle.keeper_fs.specs.Names.{is_file_name};
-ghost use Rattle.keeper_fs.specs.Real.{faults_of, append_faults_of, lists_of, store_faults_of};
+ghost use Rattle.keeper_fs.specs.Paths.{has_folder, is_path, path_in};
+ghost use Rattle.keeper_fs.specs.Real.{faults_of, append_faults_of, folder_of, lists_of, store_faults_of, store_folder_of};
 
 use crate::FsKeeper;
 use crate::folders::path_in;
 use crate::names::file_name;
-use keeper::{KeepError, Stores};
+use keeper::{Failed, KeepError, Stores};
 use std::alloc::Global;
 use std::fs::Files;
 
@@ -19,9 +20,10 @@ pub struct FsStores<R> {
 }
 
 impl<R: Files + AllocGlobal + Clone + Drop> FsStores<R> {
-    /// The accounts below a folder.
+    /// The accounts below a folder. Where its path is no text, or empty, no account can be opened.
     pub fn new(rt: R, folder: Vec<u8>) -> FsStores<R>
         ensures none { store_faults_of result ≡ 0 }
+        ensures folder { store_folder_of result ≡ folder.items }
     {
         FsStores {
             rt,
@@ -41,12 +43,25 @@ impl<R: Files + AllocGlobal + Clone + Drop> FsStores<R> {
 
 /// The folder of an account below a folder.
 fn account_folder(alloc: Global, folder: &[u8], account: &[u8]) -> Result<String, KeepError>
-    ensures { is_file_name account.now ≡ false → result ≡ Err KeepError.Failed }
+    ensures ok { IfOk result (λ path. string_bytes path ≡ path_in folder.now account.now) }
+    ensures outside { has_folder folder.now account.now ≡ false → result ≡ Err KeepError.Failed }
+    ensures only { IsErrOf result KeepError.Failed → has_folder folder.now account.now ≡ false }
 {
     let account = file_name(account)?;
-    match str::from_utf8(folder) {
-        Ok(folder) if !folder.is_empty() => Ok(path_in(alloc, folder, account)?),
-        _ => Err(KeepError::Failed),
+    let folder = path_text(folder)?;
+    Ok(path_in(alloc, folder, account)?)
+}
+
+/// The text of a path.
+#[tactic(auto, using(crate::proofs::Texts::is_text, crate::proofs::Texts::is_no_text))]
+fn path_text(path: &[u8]) -> Result<&str, Failed>
+    ensures text { IfOk result (λ text. text.now ≡ path.now) }
+    ensures ok { IfOk result (λ _. is_path path.now ≡ true) }
+    ensures refused { IfErr result (λ _. is_path path.now ≡ false) }
+{
+    match str::from_utf8(path) {
+        Ok(text) if !path.is_empty() => Ok(text),
+        _ => Err(Failed),
     }
 }
 
@@ -57,7 +72,9 @@ fn open_account<R: Files + AllocGlobal + Clone + Drop>(
     account: &[u8],
 ) -> Result<FsKeeper<R>, KeepError>
     ensures fresh { IfOk result (λ keeper. (faults_of keeper ≡ 0) × ((append_faults_of keeper ≡ 0) × (lists_of keeper ≡ 0))) }
-    ensures outside { is_file_name account.now ≡ false → IsErrOf result KeepError.Failed }
+    ensures folder { IfOk result (λ keeper. folder_of keeper ≡ path_in folder.now account.now) }
+    ensures outside { has_folder folder.now account.now ≡ false → IsErrOf result KeepError.Failed }
+    ensures only { IsErrOf result KeepError.Failed → has_folder folder.now account.now ≡ false }
 {
     let folder = account_folder(alloc, folder, account)?;
     Ok(FsKeeper::new(rt.clone()?, folder))
@@ -74,8 +91,11 @@ impl<R: Files + AllocGlobal + Clone + Drop> Stores for FsStores<R> {
         ensures fresh { IfOk result (λ keeper. (faults_of keeper ≡ 0) × (append_faults_of keeper ≡ 0)) }
         ensures cause { HasCause (IsErrOf result KeepError.Failed) (store_faults_of self.old) (store_faults_of self.new) }
         ensures listings { IfOk result (λ keeper. lists_of keeper ≡ 0) }
-        // Only a name that leads to no other folder is an account's.
-        ensures outside { is_file_name account.now ≡ false → IsErrOf result KeepError.Failed }
+        ensures account { IfOk result (λ keeper. folder_of keeper ≡ path_in (store_folder_of self.old) account.now) }
+        // An opening fails exactly where the folder's path is no text or empty, or the name is no file's.
+        ensures outside { has_folder (store_folder_of self.old) account.now ≡ false → IsErrOf result KeepError.Failed }
+        ensures only { IsErrOf result KeepError.Failed → has_folder (store_folder_of self.old) account.now ≡ false }
+        ensures folder { store_folder_of self.new ≡ store_folder_of self.old }
     {
         let opened = open_account(&self.rt, alloc, self.folder.as_slice(), account);
         if let Err(KeepError::Failed) = &opened {
@@ -84,7 +104,10 @@ impl<R: Files + AllocGlobal + Clone + Drop> Stores for FsStores<R> {
         opened
     }
 
-    fn close(&mut self, _account: &[u8], keeper: FsKeeper<R>) {
+    fn close(&mut self, _account: &[u8], keeper: FsKeeper<R>)
+        ensures cause { HasCause (0 < faults_of keeper) (store_faults_of self.old) (store_faults_of self.new) }
+        ensures folder { store_folder_of self.new ≡ store_folder_of self.old }
+    {
         if keeper.faults() > 0 {
             self.faults = self.faults.saturating_add(1);
         }

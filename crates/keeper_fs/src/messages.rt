@@ -1,5 +1,8 @@
-ghost use Rattle.std.specs.Prelude.{◌≡◌, ◌&&◌, false};
+ghost use Rattle.std.specs.Prelude.{◌≡◌, ◌&&◌, ◌↔◌, codes, true, false, IfOk};
+ghost use Rattle.std.specs.String.{string_bytes};
+ghost use Rattle.std.specs.Str.Iter.{HasSubslice};
 ghost use Rattle.keeper_fs.specs.Names.{is_file_name};
+ghost use Rattle.keeper_fs.specs.Paths.{path_in};
 
 use crate::errors::fault;
 use crate::folders::{Mailbox, path_in};
@@ -19,16 +22,22 @@ struct Places {
 }
 
 impl Places {
-    fn of(alloc: Global, mailbox: &Mailbox, name: &str) -> Result<Places, AllocError> {
+    fn of(alloc: Global, mailbox: &Mailbox, name: &str) -> Result<Places, AllocError>
+        ensures new { IfOk result (λ places. string_bytes places.new ≡ path_in (string_bytes mailbox.now.new) name.now) }
+        ensures cur { IfOk result (λ places. string_bytes places.cur ≡ path_in (string_bytes mailbox.now.cur) name.now) }
+    {
         Ok(Places {
             new: path_in(alloc, mailbox.new.as_str(), name)?,
             cur: path_in(alloc, mailbox.cur.as_str(), name)?,
         })
     }
 
-    /// Where a file of this name is put: in `cur` if the name has flags behind `:2,`, be they none, and else in `new`.
-    fn home(&self, name: &str) -> &str {
-        if name.contains(":2,") {
+    /// Where a file of this name is put: in `cur` if the name has flags, and else in `new`.
+    fn home(&self, name: &str) -> &str
+        ensures cur { HasSubslice name.now (codes ":2,") → result.now ≡ string_bytes self.now.cur }
+        ensures new { ¬ HasSubslice name.now (codes ":2,") → result.now ≡ string_bytes self.now.new }
+    {
+        if has_flags(name) {
             self.cur.as_str()
         } else {
             self.new.as_str()
@@ -40,6 +49,14 @@ impl Places {
         require_none(rt, self.new.as_str())?;
         require_none(rt, self.cur.as_str())
     }
+}
+
+/// Whether a name has flags behind `:2,`, be they none.
+#[tactic(auto, using(std::proofs::lemmas::Str::Pattern::contains_text))]
+fn has_flags(name: &str) -> bool
+    ensures { (result ≡ true) ↔ HasSubslice name.now (codes ":2,") }
+{
+    name.contains(":2,")
 }
 
 /// Fails where a file has this path.

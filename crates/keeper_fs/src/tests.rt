@@ -137,6 +137,31 @@ fn ledgers_are_replaced_whole_and_appended_to(rt: HostRuntime) -> Result<(), Fai
 }
 
 #[test]
+fn a_ledger_stays_below_its_room(rt: HostRuntime) -> Result<(), Fail> {
+    let alloc = rt.alloc();
+    let mut keeper = ann(rt)?;
+    let text = [b'x'; 5112];
+    keeper.install_ledger(0, &text)?;
+    keeper.append_ledger(0, b"1234 1\n")?;
+    // 5119 octets are there, and one more would be one too many.
+    assert_eq!(rt; keeper.append_ledger(0, b"\n"), Err(Failed));
+    assert_eq!(rt; (keeper.faults(), keeper.append_faults()), (0, 1));
+    let full = format!(in alloc; "{}1234 1\n", str::from_utf8(&text)?)?;
+    check_file(&rt, "mail/ann/maildirsize", full.as_str())?;
+    // Another program has written behind it.
+    let longer = format!(in alloc; "{full}{full}")?;
+    fs::write(&rt, "mail/ann/maildirsize", longer.as_str())?;
+    assert_eq!(rt; keeper.append_ledger(0, b"1 1\n"), Err(Failed));
+    assert_eq!(rt; (keeper.faults(), keeper.append_faults()), (0, 2));
+    check_file(&rt, "mail/ann/maildirsize", longer.as_str())?;
+    keeper.install_ledger(0, b"0S\n")?;
+    keeper.append_ledger(0, b"1 1\n")?;
+    check_file(&rt, "mail/ann/maildirsize", "0S\n1 1\n")?;
+    fs::remove_dir_all(&rt, "mail")?;
+    Ok(())
+}
+
+#[test]
 fn a_tree_of_other_programs_is_read(rt: HostRuntime) -> Result<(), Fail> {
     let alloc = rt.alloc();
     let mut keeper = ann(rt)?;
@@ -269,13 +294,17 @@ fn a_file_that_is_in_the_way_or_not_there_is_a_fault(rt: HostRuntime) -> Result<
         keeper.rename(alloc, b"INBOX", b"1.mx", b"INBOX", b"2.mx"),
         Err(KeepError::Failed)
     );
+    assert_eq!(rt;
+        keeper.rename(alloc, b"INBOX", b"1.mx", b"INBOX", b"1.mx"),
+        Err(KeepError::Failed)
+    );
     // No file has this name.
     assert_eq!(rt;
         keeper.rename(alloc, b"INBOX", b"3.mx", b"INBOX", b"4.mx"),
         Err(KeepError::Failed)
     );
     assert_eq!(rt; keeper.remove(b"INBOX", b"3.mx"), Err(Failed));
-    assert_eq!(rt; keeper.faults(), 5);
+    assert_eq!(rt; keeper.faults(), 6);
     check_mailbox(&rt, &mut keeper, b"INBOX", "1.mx 3\n2.mx 3\n")?;
     check_file(&rt, "mail/ann/cur/2.mx", "two")?;
     // A file stands where a folder should, and nothing half-written is left.
@@ -291,9 +320,9 @@ fn a_file_that_is_in_the_way_or_not_there_is_a_fault(rt: HostRuntime) -> Result<
     fs::create_dir(&rt, "mail/ann/maildirsize")?;
     assert!(rt; keeper.read_ledger(alloc, 0).is_err());
     assert_eq!(rt; keeper.install_ledger(0, b"0S\n"), Err(Failed));
-    assert_eq!(rt; keeper.faults(), 9);
+    assert_eq!(rt; keeper.faults(), 10);
     assert_eq!(rt; keeper.append_ledger(0, b"1 1\n"), Err(Failed));
-    assert_eq!(rt; (keeper.faults(), keeper.append_faults()), (9, 1));
+    assert_eq!(rt; (keeper.faults(), keeper.append_faults()), (10, 1));
     assert_eq!(rt; fs::read_dir(&rt, "mail/ann/tmp")?.count(), 0);
     fs::remove_dir_all(&rt, "mail")?;
     Ok(())
