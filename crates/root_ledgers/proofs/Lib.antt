@@ -4,3 +4,4 @@ pub mod LineLemmas
 pub mod Sums
 pub mod Kept
 pub mod Posting
+pub mod ScanningLemmas

@@ -1,12 +1,12 @@
 -- What a scan does.
-use Rattle.std.specs.Prelude.{◌≡◌, ◌<◌, ℕ, Bool, false, is_some, List, length, slice_index_or, Vec, Option, None, IfSome, Result, Ok, Err}
+use Rattle.std.specs.Prelude.{◌≡◌, ◌<◌, ◌+◌, ℕ, Bool, true, false, is_some, if◌then◌else◌, List, length, slice_index_or, Vec, Option, Some, None, IfSome, Result, Ok, Err}
 use Rattle.quota_units.specs.declared.totals.Totals.{Totals}
 use Rattle.quota_roots.specs.declared.root.RootSpec.{RootSpec}
 use Rattle.keeper.specs.Files.{Row}
 use Rattle.keeper.specs.Calls.{Told}
 use Rattle.root_ledgers.specs.declared.book.Standing.{Standing}
 use Rattle.root_ledgers.specs.declared.book.Standing.TheVariants.{Settled, Doubt}
-use Rattle.root_ledgers.specs.Scans.{scan, AreSmall}
+use Rattle.root_ledgers.specs.Scans.{scan, cut_totals, AreSmall}
 
 -- the files stay, and these totals are what the files of these mailboxes add up to
 abbrev pub ScansSome : List RootSpec → ℕ → List (List ℕ) → Totals → Told → Told → Type 0
@@ -31,10 +31,15 @@ pub record IsScan (wanted : Bool) (found : Option Totals) : Type 0 where
 abbrev pub IsFresh : List RootSpec → ℕ → List (List ℕ) → Option Totals → List Row → Type 0
 IsFresh roots root mailboxes found rows = IfSome found (λ totals. totals ≡ scan roots root mailboxes rows)
 
--- the files stay, and the root is scanned or is not
-abbrev pub ScansOne : {E : Type 0} → List RootSpec → ℕ → List (List ℕ) → Result (Option Totals) E → Told → Told → Type 0
-ScansOne roots root mailboxes (Ok found) told told' = IsFresh roots root mailboxes found told.files.rows × (told'.files ≡ told.files)
-ScansOne roots root mailboxes (Err e) told told' = told'.files ≡ told.files
+-- a scan that has counted nothing yet, of a root that is wanted
+abbrev pub empty_scan : Bool → Option Totals
+empty_scan false = None
+empty_scan true = Some (record { octets = 0; count = 0 })
+
+-- what was counted of a root, with the files of one more mailbox, where the root governs it
+abbrev pub counted : Bool → Totals → Option Totals → Option Totals
+counted governs files None = None
+counted governs files (Some totals) = Some (if governs then cut_totals (totals.octets + files.octets) (totals.count + files.count) else totals)
 
 -- the scan of a root, where it was made
 abbrev pub scan_at : List (Option Totals) → ℕ → Option Totals

@@ -5,6 +5,7 @@ mod book;
 mod change;
 mod lines;
 mod scan;
+mod scans;
 mod settling;
 
 pub use book::{Book, Standing, books_in_doubt};

@@ -1,15 +1,15 @@
 // Roots in doubt are settled.
-ghost use Rattle.std.specs.Prelude.{◌≡◌, ◌<◌, ℕ, true, length, nat_eq, IfOk, IfSome, OnOk, IsErr, IsErrOf, All};
+ghost use Rattle.std.specs.Prelude.{◌≡◌, ◌<◌, ℕ, true, length, nat_eq, IfSome, OnOk, IsErr, IsErrOf, All};
 ghost use Rattle.keeper.specs.Causes.{HasCause};
 ghost use Rattle.keeper.specs.Calls.{Changes};
 ghost use Rattle.std.specs.Option.{option_map};
 ghost use Rattle.root_ledgers.specs.declared.book.Standing.TheVariants.{Settled, Doubt};
 ghost use Rattle.root_ledgers.specs.Scans.{AreSmall, scan};
-ghost use Rattle.root_ledgers.specs.Scanning.{AreScans, IsScan, ScansEach, ScansOne, is_wanted};
 ghost use Rattle.root_ledgers.specs.Settling.{OnFiles, Settling, Marks, Spared, book_at, comes_under, coming};
 
 use crate::book::{Book, Standing};
 use crate::scan::scan_root;
+use crate::scans::scan_coming;
 use keeper::{Failed, KeepError, Keeper};
 use maildirsize::{Text, print_folded};
 use quota_roots::{RootSet, Roots, Setup};
@@ -90,62 +90,6 @@ pub fn settle<K: Keeper>(
     Ok(settle_by(keeper, setup, limits, books, root, totals)?)
 }
 
-/// A fresh scan of a root, where it is in doubt and a message comes under it which goes from one mailbox to another.
-///
-/// # Errors
-///
-/// `Failed` where the store failed, and `NoMemory`.
-fn scan_wanted<K: Keeper>(
-    alloc: Global,
-    keeper: &mut K,
-    setup: &Setup,
-    standing: Standing,
-    root: u32,
-    from: Option<&[u8]>,
-    to: &[u8],
-) -> Result<Option<Totals>, KeepError>
-    requires { root < length setup.now.roots }
-    ensures files { Changes (ScansOne setup.now.roots root setup.now.mailboxes result) (K.told keeper.old) (K.told keeper.new) }
-    ensures scan { IfOk result (IsScan (is_wanted (comes_under setup.now.roots (option_map (λ m. m.now) from.entry) to.now root) standing)) }
-    ensures cause { HasCause (IsErrOf result KeepError.Failed) (K.faults keeper.old) (K.faults keeper.new) }
-    ensures appends { K.append_faults keeper.new ≡ K.append_faults keeper.old }
-{
-    if let Standing::Settled = standing {
-        return Ok(None);
-    }
-    if !comes_under(&setup.roots, root, from, to) {
-        return Ok(None);
-    }
-    Ok(Some(scan_root(alloc, keeper, setup, root)?))
-}
-
-/// A fresh scan of each root in doubt that a message comes under which goes from one mailbox to another.
-///
-/// # Errors
-///
-/// `Failed` where the store failed, and `NoMemory`.
-fn scan_coming<K: Keeper>(
-    alloc: Global,
-    keeper: &mut K,
-    setup: &Setup,
-    books: &[Book],
-    from: Option<&[u8]>,
-    to: &[u8],
-) -> Result<Vec<Option<Totals>>, KeepError>
-    requires { length books.now ≡ length setup.now.roots }
-    ensures files { Changes (ScansEach setup.now.roots setup.now.mailboxes result) (K.told keeper.old) (K.told keeper.new) }
-    ensures scans { IfOk result (λ scans. AreScans (length setup.now.roots) (λ root. is_wanted (comes_under setup.now.roots (option_map (λ m. m.now) from.entry) to.now root) (book_at books.now root).standing) scans.items) }
-    ensures cause { HasCause (IsErrOf result KeepError.Failed) (K.faults keeper.old) (K.faults keeper.new) }
-    ensures appends { K.append_faults keeper.new ≡ K.append_faults keeper.old }
-{
-    let mut scans = Vec::new(alloc);
-    for root in 0..setup.roots.count() {
-        let standing = books[root as usize].standing;
-        scans.push(scan_wanted(alloc, keeper, setup, standing, root, from, to)?)?;
-    }
-    Ok(scans)
-}
-
 /// Settles each root in doubt that a message comes under which goes from one mailbox to another; one that is delivered comes from
 /// none. All memory is taken before a file is changed.
 ///
@@ -182,7 +126,7 @@ pub fn settle_coming<K: Keeper>(
 }
 
 /// Whether a message that goes from one mailbox to another comes under the root.
-fn comes_under(roots: &Roots, root: u32, from: Option<&[u8]>, to: &[u8]) -> bool
+pub(crate) fn comes_under(roots: &Roots, root: u32, from: Option<&[u8]>, to: &[u8]) -> bool
     requires { root < length roots.now }
     ensures { result ≡ comes_under roots.now (option_map (λ m. m.now) from.entry) to.now root }
 {

@@ -1,0 +1,14 @@
+use Rattle.std.proofs.Common.{◌≡◌, length, take}
+use Rattle.keeper.specs.Calls.{Changes}
+use Rattle.std.specs.Option.{option_map}
+use Rattle.root_ledgers.specs.Scanning.{AreScans, ScansList, is_wanted}
+use Rattle.root_ledgers.specs.Settling.{book_at, comes_under}
+use Rattle.root_ledgers.proofs.scans.scan_coming.Given as goal
+
+abbrev pub invariant-loop-mailbox : goal.invariant-loop-mailbox
+invariant-loop-mailbox g l = record {
+  files : Changes (ScansList l.setup.roots (take l.mailbox-index l.mailbox-items) l.scans.items) (g.K.Keeper.told l.initial.keeper) (g.K.Keeper.told l.keeper);
+  scans : AreScans (length l.setup.roots) (λ root. is_wanted (comes_under l.setup.roots (option_map (λ m. m.now) l.from) l.to root) (book_at l.books root).standing) l.scans.items;
+  faults : g.K.Keeper.faults l.keeper ≡ g.K.Keeper.faults l.initial.keeper;
+  appends : g.K.Keeper.append_faults l.keeper ≡ g.K.Keeper.append_faults l.initial.keeper;
+}

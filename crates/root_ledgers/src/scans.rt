@@ -1,0 +1,125 @@
+// Fresh scans of several roots: each mailbox is listed once for all of them.
+ghost use Rattle.std.specs.Prelude.{◌≡◌, ◌<◌, ◌^◌, ℕ, true, false, is_some, length, IfOk, IfSome, IsErrOf};
+ghost use Rattle.keeper.specs.Causes.{HasCause};
+ghost use Rattle.keeper.specs.Calls.{Changes};
+ghost use Rattle.std.specs.Option.{option_map};
+ghost use Rattle.quota_roots.specs.Governing.{governs_at};
+ghost use Rattle.root_ledgers.specs.Scans.{AreSmall};
+ghost use Rattle.root_ledgers.specs.Scanning.{AreScans, IsScan, ScansEach, counted, empty_scan, is_wanted, scan_at};
+ghost use Rattle.root_ledgers.specs.Settling.{book_at, comes_under};
+
+use crate::book::{Book, Standing};
+use crate::scan::{cut_sum, totals_of_files};
+use crate::settling::comes_under;
+use keeper::{KeepError, Keeper};
+use quota_roots::{Roots, Setup};
+use quota_units::Totals;
+use std::alloc::{AllocError, Global};
+
+/// A scan that has counted nothing yet, where a root is in doubt and may be settled; none else.
+fn empty_scan(may: bool, standing: Standing) -> Option<Totals>
+    ensures value { result ≡ empty_scan (is_wanted may standing) }
+    ensures scan { IsScan (is_wanted may standing) result }
+{
+    match standing {
+        Standing::Doubt if may => Some(Totals {
+            octets: 0,
+            count: 0,
+        }),
+        _ => None,
+    }
+}
+
+/// Scans that have counted nothing yet, of each root in doubt that a message comes under; none of the other roots.
+fn empty_scans(
+    alloc: Global,
+    roots: &Roots,
+    books: &[Book],
+    from: Option<&[u8]>,
+    to: &[u8],
+) -> Result<Vec<Option<Totals>>, AllocError>
+    requires { length books.now ≡ length roots.now }
+    ensures scans { IfOk result (λ scans. AreScans (length roots.now) (λ root. is_wanted (comes_under roots.now (option_map (λ m. m.now) from.entry) to.now root) (book_at books.now root).standing) scans.items) }
+    ensures empty { IfOk result (λ scans. (root : ℕ) → root < length roots.now → scan_at scans.items root ≡ empty_scan (is_wanted (comes_under roots.now (option_map (λ m. m.now) from.entry) to.now root) (book_at books.now root).standing)) }
+{
+    let mut scans = Vec::new(alloc);
+    for root in 0..roots.count() {
+        let may = comes_under(roots, root, from, to);
+        scans.push(empty_scan(may, books[root as usize].standing))?;
+    }
+    Ok(scans)
+}
+
+/// Whether a root that is scanned governs the mailbox.
+fn is_counted(scans: &[Option<Totals>], roots: &Roots, mailbox: &[u8]) -> bool
+    requires { length scans.now ≡ length roots.now }
+    ensures none { result ≡ false → (root : ℕ) → is_some (scan_at scans.now root) ≡ true → governs_at roots.now root mailbox.now ≡ false }
+{
+    for root in 0..roots.count() {
+        if scans[root as usize].is_some() && roots.governs(root, mailbox) {
+            return true;
+        }
+    }
+    false
+}
+
+/// What was counted of a root, with the files of one more mailbox, where the root governs it.
+fn with_files(found: Option<Totals>, governs: bool, files: Totals) -> Option<Totals>
+    requires found { IfSome found AreSmall }
+    requires files { AreSmall files }
+    ensures value { result ≡ counted governs files found }
+    ensures small { IfSome result AreSmall }
+    ensures same { is_some result ≡ is_some found }
+{
+    match found {
+        Some(totals) if governs => Some(cut_sum(totals, files)),
+        _ => found,
+    }
+}
+
+/// Counts the files of a mailbox for each root that is scanned and governs it.
+fn count_files(scans: &mut Vec<Option<Totals>>, roots: &Roots, mailbox: &[u8], files: Totals)
+    requires count { length scans.old.items ≡ length roots.now }
+    requires scans { (root : ℕ) → IfSome (scan_at scans.old.items root) AreSmall }
+    requires files { AreSmall files }
+    ensures count { length scans.new.items ≡ length scans.old.items }
+    ensures counted { (root : ℕ) → root < length roots.now → scan_at scans.new.items root ≡ counted (governs_at roots.now root mailbox.now) files (scan_at scans.old.items root) }
+    ensures small { (root : ℕ) → IfSome (scan_at scans.new.items root) AreSmall }
+    ensures same { (root : ℕ) → is_some (scan_at scans.new.items root) ≡ is_some (scan_at scans.old.items root) }
+{
+    for root in 0..roots.count() {
+        let governs = roots.governs(root, mailbox);
+        scans[root as usize] = with_files(scans[root as usize], governs, files);
+    }
+}
+
+/// A fresh scan of each root in doubt that a message comes under which goes from one mailbox to another. Each mailbox that such a
+/// root governs is listed once.
+///
+/// # Errors
+///
+/// `Failed` where the store failed, and `NoMemory`.
+pub(crate) fn scan_coming<K: Keeper>(
+    alloc: Global,
+    keeper: &mut K,
+    setup: &Setup,
+    books: &[Book],
+    from: Option<&[u8]>,
+    to: &[u8],
+) -> Result<Vec<Option<Totals>>, KeepError>
+    requires { length books.now ≡ length setup.now.roots }
+    ensures files { Changes (ScansEach setup.now.roots setup.now.mailboxes result) (K.told keeper.old) (K.told keeper.new) }
+    ensures scans { IfOk result (λ scans. AreScans (length setup.now.roots) (λ root. is_wanted (comes_under setup.now.roots (option_map (λ m. m.now) from.entry) to.now root) (book_at books.now root).standing) scans.items) }
+    ensures cause { HasCause (IsErrOf result KeepError.Failed) (K.faults keeper.old) (K.faults keeper.new) }
+    ensures appends { K.append_faults keeper.new ≡ K.append_faults keeper.old }
+{
+    let mut scans = empty_scans(alloc, &setup.roots, books, from, to)?;
+    for mailbox in setup.mailboxes.as_slice() {
+        if is_counted(&scans, &setup.roots, mailbox.as_slice()) {
+            let files = keeper.list(alloc, mailbox.as_slice())?;
+            let totals = totals_of_files(&files);
+            count_files(&mut scans, &setup.roots, mailbox.as_slice(), totals);
+        }
+    }
+    Ok(scans)
+}
