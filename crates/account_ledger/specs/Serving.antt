@@ -201,11 +201,16 @@ pub record WritesMove (mailbox base : List ℕ) (from to : Option (List ℕ)) (s
   pub named : OfAccount s (HasNamed mailbox base octets)
   pub lines : WritesLines from to octets s s'
 
--- a call that puts or renames a file behind the roots that it settles, where the keeper may find no memory yet
+-- a call that puts or renames a file behind the roots that it settles
 abbrev pub is_filing : Call → Bool
 is_filing (Deliver mailbox octets flags) = true
 is_filing (Move from base to) = true
 is_filing call = false
+
+-- Where memory is wanting, standings, ledgers and counts of faults are as before; or the roots that the call needs are settled, and
+-- the keeper found no memory to put or to rename a file.
+abbrev pub Spares : Call → State → State → Type 0
+Spares call s s' = StayCalm s s' ⊎ ((is_filing call ≡ true) × ((root : ℕ) → needs s.setup.roots call root ≡ true → standing_at s'.standings root ≡ Settled))
 
 -- what a call that was replied to writes into ledgers, when the roots that it needs are settled
 abbrev pub WritesFor : Call → Reply → State → State → Type 0

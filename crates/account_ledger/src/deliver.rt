@@ -15,7 +15,7 @@ ghost use Rattle.account_core.specs.Legality.{MayBeServed, fault_count};
 ghost use Rattle.root_ledgers.specs.declared.book.Standing.TheVariants.{Settled};
 ghost use Rattle.account_ledger.specs.Order.{IsInOrder};
 ghost use Rattle.account_ledger.specs.Rows.{IsInside, IsVerdict};
-ghost use Rattle.account_ledger.specs.Serving.{Enters, Leaves, LedgersStay, SettlesSome, ServesRows, WritesBy, misses, OfAccount, Opened, Serves, StayCalm, WritesLines};
+ghost use Rattle.account_ledger.specs.Serving.{Enters, Leaves, LedgersStay, SettlesSome, ServesRows, Spares, WritesBy, misses, OfAccount, Opened, Serves, StayCalm, WritesLines};
 ghost use Rattle.root_ledgers.specs.Settling.{OnFiles, comes_under, coming};
 ghost use Rattle.account_ledger.specs.States.{standing_at};
 
@@ -116,6 +116,7 @@ impl<K: Keeper> AccountState<K> {
         requires held { length self.old.history < self.old.reserved }
         ensures serves { Serves caller (Call.Deliver mailbox octets flags) bytes.now result self.old self.new }
         ensures form { IfOk result (HasForm self.old.setup.roots self.old.setup.mailboxes (Call.Deliver mailbox octets flags)) }
+        ensures spared { result ≡ Err StepError.NoMemory → Spares (Call.Deliver mailbox octets flags) self.old self.new }
         ensures never_full { (limit : ℕ) → result ≢ Err (StepError.JournalFull limit) }
     {
         self.is_in_order();
@@ -166,6 +167,7 @@ impl<K: Keeper> AccountState<K> {
         ensures delivered { self.new.delivered ≡ self.old.delivered }
         ensures settled { OnOk result ((root : ℕ) → comes_under self.old.setup.roots (option_map (λ m. m.now) from.entry) to.now root ≡ true → standing_at self.new.standings root ≡ Settled) }
         ensures settles { SettlesSome (comes_under self.old.setup.roots (option_map (λ m. m.now) from.entry) to.now) self.old self.new }
+        ensures spared { result ≡ Err StepError.NoMemory → StayCalm self.old self.new }
         ensures verdict { IfOk result (λ verdict. OfAccount self.new (λ account. IsVerdict (over_of self.new.setup.roots account (coming self.new.setup.roots (option_map (λ m. m.now) from.entry) to.now) octets) verdict)) }
         ensures inside { IfOk result (IsInside (length self.old.setup.roots)) }
         ensures order { IsInOrder self.new }

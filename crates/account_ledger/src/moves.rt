@@ -12,7 +12,7 @@ ghost use Rattle.root_ledgers.specs.declared.book.Standing.TheVariants.{Settled}
 ghost use Rattle.account_ledger.specs.Messages.{message_in};
 ghost use Rattle.account_ledger.specs.NamedFiles.{IsThere, file_named};
 ghost use Rattle.account_ledger.specs.Rows.{IsVerdict};
-ghost use Rattle.account_ledger.specs.Serving.{Enters, OfAccount, Opened, Serves, ServesRows, SettlesSome, WritesBy, misses};
+ghost use Rattle.account_ledger.specs.Serving.{Enters, OfAccount, Opened, Serves, ServesRows, SettlesSome, Spares, WritesBy, misses};
 ghost use Rattle.root_ledgers.specs.Settling.{OnFiles};
 ghost use Rattle.account_ledger.specs.States.{standing_at};
 
@@ -45,6 +45,7 @@ impl<K: Keeper> AccountState<K> {
         requires held { length self.old.history < self.old.reserved }
         ensures serves { Serves caller (Call.Move from base to) [] result self.old self.new }
         ensures form { IfOk result (HasForm self.old.setup.roots self.old.setup.mailboxes (Call.Move from base to)) }
+        ensures spared { result ≡ Err StepError.NoMemory → Spares (Call.Move from base to) self.old self.new }
         ensures never_full { (limit : ℕ) → result ≢ Err (StepError.JournalFull limit) }
     {
         self.is_in_order();
@@ -85,6 +86,7 @@ impl<K: Keeper> AccountState<K> {
         requires there { OfAccount self.old (IsThere from base to (message_in from file)) }
         ensures serves { Serves caller (Call.Move from base to) [] result self.old self.new }
         ensures form { IfOk result (HasForm self.old.setup.roots self.old.setup.mailboxes (Call.Move from base to)) }
+        ensures spared { result ≡ Err StepError.NoMemory → Spares (Call.Move from base to) self.old self.new }
         ensures never_full { (limit : ℕ) → result ≢ Err (StepError.JournalFull limit) }
     {
         self.is_in_order();
@@ -122,6 +124,7 @@ impl<K: Keeper> AccountState<K> {
         requires apart { bytes_eq from to ≡ false }
         ensures serves { Serves caller (Call.Move from base to) [] result self.old self.new }
         ensures form { IfOk result (HasForm self.old.setup.roots self.old.setup.mailboxes (Call.Move from base to)) }
+        ensures spared { result ≡ Err StepError.NoMemory → Spares (Call.Move from base to) self.old self.new }
         ensures never_full { (limit : ℕ) → result ≢ Err (StepError.JournalFull limit) }
     {
         self.is_in_order();

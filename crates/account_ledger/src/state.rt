@@ -8,7 +8,7 @@ ghost use Rattle.account_core.specs.Forms.{HasForm};
 ghost use Rattle.account_ledger.specs.Rows.{IsInside, IsVerdict};
 ghost use Rattle.keeper.specs.Causes.{HasCause, Rose};
 ghost use Rattle.account_ledger.specs.Order.{IsInOrder};
-ghost use Rattle.account_ledger.specs.Serving.{Opened, OfAccount, SettlesSome, Enters, HasBytes, IsQuestion, IsServed, Leaves, ListsFor, Serves, ServesLedgers, ServesRows, StayCalm, is_filing, is_place, misses, needs};
+ghost use Rattle.account_ledger.specs.Serving.{Opened, OfAccount, SettlesSome, Enters, HasBytes, IsQuestion, IsServed, Leaves, ListsFor, Serves, ServesLedgers, ServesRows, Spares, StayCalm, is_place, misses, needs};
 ghost use Rattle.account_core.specs.Legality.{MayBeServed, fault_count};
 ghost use Rattle.account_core.specs.History.{entry_of};
 ghost use Rattle.keeper.specs.Calls.{Changes};
@@ -172,7 +172,7 @@ impl<K: Keeper> AccountState<K> {
     /// `JournalFull` exactly where the history holds as many entries as the setup's journal allows; nothing changes then.
     /// `Store` only where the store failed in this call; the entry has fault then, and the messages and the limits are as before.
     /// `NoMemory`: there is no entry, and the messages and the limits are as before; so are all roots and their ledgers, unless a
-    /// delivery or a move has settled the roots that it needs.
+    /// delivery or a move has settled all roots that it needs, and the keeper found no memory to put or rename the file.
     /// After each error a root that was settled still is.
     pub fn serve(
         &mut self,
@@ -189,7 +189,7 @@ impl<K: Keeper> AccountState<K> {
         ensures form { IfOk result (HasForm self.old.setup.roots self.old.setup.mailboxes call) }
         ensures ledgers { ServesLedgers call result self.old self.new }
         ensures rows { Changes (OnFiles (λ files files'. ServesRows self.old.epoch call bytes.now result files.rows files'.rows)) self.old.told self.new.told }
-        ensures spared { result ≡ Err StepError.NoMemory → is_filing call ≡ false → StayCalm self.old self.new }
+        ensures spared { result ≡ Err StepError.NoMemory → Spares call self.old self.new }
         ensures cause { result ≡ Err StepError.Store → Rose self.old.faults self.new.faults }
         ensures lists { ListsFor call self.old.lists self.new.lists }
         ensures full { (limit : ℕ) → (result ≡ Err (StepError.JournalFull limit)) ↔ ((length self.old.history ≡ self.old.setup.journal) × (limit ≡ self.old.setup.journal)) }
@@ -222,7 +222,7 @@ impl<K: Keeper> AccountState<K> {
         requires held { length self.old.history < self.old.reserved }
         ensures serves { Serves caller call bytes.now result self.old self.new }
         ensures form { IfOk result (HasForm self.old.setup.roots self.old.setup.mailboxes call) }
-        ensures spared { result ≡ Err StepError.NoMemory → is_filing call ≡ false → StayCalm self.old self.new }
+        ensures spared { result ≡ Err StepError.NoMemory → Spares call self.old self.new }
         ensures lists { ListsFor call self.old.lists self.new.lists }
         ensures never_full { (limit : ℕ) → result ≢ Err (StepError.JournalFull limit) }
     {
