@@ -2,7 +2,7 @@
 ghost use Rattle.std.specs.Prelude.{◌≡◌, ◌≢◌, ◌<◌, ◌≤◌, ◌+◌, ◌-◌, ◌^◌, min, ◌++◌, ◌∷◌, [], ℕ, true, false, Some, None, Ok, length, bytes_eq, IfOk, OnOk, OnErr, IsErr, IsTrue};
 ghost use Rattle.std.specs.List.{list_any};
 ghost use Rattle.std.specs.Option.{option_map};
-ghost use Rattle.keeper.specs.Calls.{Changes};
+ghost use Rattle.keeper.specs.Calls.{Changes, Spends};
 ghost use Rattle.keeper.specs.Causes.{HasCause, Rose};
 ghost use Rattle.message_names.specs.Written.{written_name};
 ghost use Rattle.message_names.specs.Messages.{message_of};
@@ -117,6 +117,7 @@ impl<K: Keeper> AccountState<K> {
         ensures serves { Serves caller (Call.Deliver mailbox octets flags) bytes.now result self.old self.new }
         ensures form { IfOk result (HasForm self.old.setup.roots self.old.setup.mailboxes (Call.Deliver mailbox octets flags)) }
         ensures spared { result ≡ Err StepError.NoMemory → Spares (Call.Deliver mailbox octets flags) self.old self.new }
+        ensures due { Changes (Spends (result ≡ Err StepError.Store) (self.old.faults + self.old.append_faults) (self.new.faults + self.new.append_faults)) self.old.told self.new.told }
         ensures never_full { (limit : ℕ) → result ≢ Err (StepError.JournalFull limit) }
     {
         self.is_in_order();
@@ -171,6 +172,7 @@ impl<K: Keeper> AccountState<K> {
         ensures verdict { IfOk result (λ verdict. OfAccount self.new (λ account. IsVerdict (over_of self.new.setup.roots account (coming self.new.setup.roots (option_map (λ m. m.now) from.entry) to.now) octets) verdict)) }
         ensures inside { IfOk result (IsInside (length self.old.setup.roots)) }
         ensures order { IsInOrder self.new }
+        ensures due { Changes (Spends (result ≡ Err StepError.Store) (self.old.faults + self.old.append_faults) (self.new.faults + self.new.append_faults)) self.old.told self.new.told }
         ensures cause { HasCause (result ≡ Err StepError.Store) self.old.faults self.new.faults }
         ensures never_full { (limit : ℕ) → result ≢ Err (StepError.JournalFull limit) }
     {
@@ -204,6 +206,7 @@ impl<K: Keeper> AccountState<K> {
         ensures writes { WritesBy (Call.Deliver mailbox octets flags) result self.old self.new }
         ensures rows { Changes (OnFiles (λ files files'. ServesRows self.old.epoch (Call.Deliver mailbox octets flags) bytes.now result files.rows files'.rows)) self.old.told self.new.told }
         ensures there { IfOk result (λ given. misses given ≡ false) }
+        ensures due { Changes (Spends (result ≡ Err StepError.Store) (self.old.faults + self.old.append_faults) (self.new.faults + self.new.append_faults)) self.old.told self.new.told }
         ensures cause { result ≡ Err StepError.Store → Rose self.old.faults self.new.faults }
         ensures never_full { (limit : ℕ) → result ≢ Err (StepError.JournalFull limit) }
     {

@@ -1,7 +1,7 @@
 // The limits of a root are set, and its ledger with them.
-ghost use Rattle.std.specs.Prelude.{◌≡◌, ◌≢◌, ◌<◌, ◌++◌, ◌∷◌, [], ℕ, true, false, Some, None, Ok, length, IfOk, OnOk, OnErr, IsErr};
+ghost use Rattle.std.specs.Prelude.{◌+◌, ◌≡◌, ◌≢◌, ◌<◌, ◌++◌, ◌∷◌, [], ℕ, true, false, Some, None, Ok, length, IfOk, OnOk, OnErr, IsErr};
 ghost use Rattle.quota_roots.specs.RootLists.{place_of};
-ghost use Rattle.keeper.specs.Calls.{Changes};
+ghost use Rattle.keeper.specs.Calls.{Changes, Spends};
 ghost use Rattle.keeper.specs.Causes.{HasCause};
 ghost use Rattle.account_core.specs.History.{entry_of};
 ghost use Rattle.account_core.specs.Machine.{reply_of};
@@ -39,6 +39,7 @@ impl<K: Keeper> AccountState<K> {
         ensures serves { Serves caller (Call.SetLimits root limits) [] result self.old self.new }
         ensures form { IfOk result (HasForm self.old.setup.roots self.old.setup.mailboxes (Call.SetLimits root limits)) }
         ensures spared { result ≡ Err StepError.NoMemory → StayCalm self.old self.new }
+        ensures due { Changes (Spends (result ≡ Err StepError.Store) (self.old.faults + self.old.append_faults) (self.new.faults + self.new.append_faults)) self.old.told self.new.told }
         ensures never_full { (limit : ℕ) → result ≢ Err (StepError.JournalFull limit) }
     {
         let Some(place) = self.find_root(root.as_slice()) else {
@@ -67,6 +68,7 @@ impl<K: Keeper> AccountState<K> {
         requires held { length self.old.history < self.old.reserved }
         requires nowhere { place_of self.old.setup.roots root ≡ None }
         ensures serves { Serves caller (Call.SetLimits root limits) [] (Ok result) self.old self.new }
+        ensures calm { self.new ≡ record self.old { history = self.new.history } }
         ensures form { HasForm self.old.setup.roots self.old.setup.mailboxes (Call.SetLimits root limits) result }
     {
         let _limits = self.has_limits();
@@ -100,6 +102,7 @@ impl<K: Keeper> AccountState<K> {
         ensures named { IfOk result (λ row. row.root ≡ root) }
         ensures stays { OnErr result (LedgersStay self.old self.new) }
         ensures rows { Changes (OnFiles (λ files files'. files'.rows ≡ files.rows)) self.old.told self.new.told }
+        ensures due { Changes (Spends (IsErr result) (self.old.faults + self.old.append_faults) (self.new.faults + self.new.append_faults)) self.old.told self.new.told }
         ensures cause { HasCause (IsErr result) self.old.faults self.new.faults }
     {
         let totals = self.books[root as usize].totals;

@@ -1,8 +1,8 @@
 // A message moves to another mailbox: its file moves, roots that it leaves or comes under get its line, and the call is entered.
-ghost use Rattle.std.specs.Prelude.{◌≡◌, ◌≢◌, ◌<◌, [], ℕ, true, false, Some, None, length, bytes_eq, IfOk, IfSome, OnOk};
+ghost use Rattle.std.specs.Prelude.{◌+◌, ◌≡◌, ◌≢◌, ◌<◌, [], ℕ, true, false, Some, None, length, bytes_eq, IfOk, IfSome, OnOk};
 ghost use Rattle.std.specs.List.{list_any};
 ghost use Rattle.quota_roots.specs.Governing.{gaining};
-ghost use Rattle.keeper.specs.Calls.{Changes};
+ghost use Rattle.keeper.specs.Calls.{Changes, Spends};
 ghost use Rattle.keeper.specs.Causes.{HasCause, Rose};
 ghost use Rattle.keeper.specs.Files.{listed};
 ghost use Rattle.account_core.specs.Machine.{over_of, reply_of};
@@ -46,6 +46,7 @@ impl<K: Keeper> AccountState<K> {
         ensures serves { Serves caller (Call.Move from base to) [] result self.old self.new }
         ensures form { IfOk result (HasForm self.old.setup.roots self.old.setup.mailboxes (Call.Move from base to)) }
         ensures spared { result ≡ Err StepError.NoMemory → Spares (Call.Move from base to) self.old self.new }
+        ensures due { Changes (Spends (result ≡ Err StepError.Store) (self.old.faults + self.old.append_faults) (self.new.faults + self.new.append_faults)) self.old.told self.new.told }
         ensures never_full { (limit : ℕ) → result ≢ Err (StepError.JournalFull limit) }
     {
         self.is_in_order();
@@ -87,6 +88,7 @@ impl<K: Keeper> AccountState<K> {
         ensures serves { Serves caller (Call.Move from base to) [] result self.old self.new }
         ensures form { IfOk result (HasForm self.old.setup.roots self.old.setup.mailboxes (Call.Move from base to)) }
         ensures spared { result ≡ Err StepError.NoMemory → Spares (Call.Move from base to) self.old self.new }
+        ensures due { Changes (Spends (result ≡ Err StepError.Store) (self.old.faults + self.old.append_faults) (self.new.faults + self.new.append_faults)) self.old.told self.new.told }
         ensures never_full { (limit : ℕ) → result ≢ Err (StepError.JournalFull limit) }
     {
         self.is_in_order();
@@ -125,6 +127,7 @@ impl<K: Keeper> AccountState<K> {
         ensures serves { Serves caller (Call.Move from base to) [] result self.old self.new }
         ensures form { IfOk result (HasForm self.old.setup.roots self.old.setup.mailboxes (Call.Move from base to)) }
         ensures spared { result ≡ Err StepError.NoMemory → Spares (Call.Move from base to) self.old self.new }
+        ensures due { Changes (Spends (result ≡ Err StepError.Store) (self.old.faults + self.old.append_faults) (self.new.faults + self.new.append_faults)) self.old.told self.new.told }
         ensures never_full { (limit : ℕ) → result ≢ Err (StepError.JournalFull limit) }
     {
         self.is_in_order();
@@ -165,6 +168,7 @@ impl<K: Keeper> AccountState<K> {
         ensures writes { WritesBy (Call.Move from base to) result self.old self.new }
         ensures rows { Changes (OnFiles (λ files files'. ServesRows self.old.epoch (Call.Move from base to) [] result files.rows files'.rows)) self.old.told self.new.told }
         ensures there { IfOk result (λ given. misses given ≡ false) }
+        ensures due { Changes (Spends (result ≡ Err StepError.Store) (self.old.faults + self.old.append_faults) (self.new.faults + self.new.append_faults)) self.old.told self.new.told }
         ensures cause { result ≡ Err StepError.Store → Rose self.old.faults self.new.faults }
         ensures never_full { (limit : ℕ) → result ≢ Err (StepError.JournalFull limit) }
     {

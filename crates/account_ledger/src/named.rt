@@ -1,11 +1,11 @@
 // The file of the message that a mailbox and a base name is looked for: its mailbox is listed, and no list of messages is kept.
-ghost use Rattle.std.specs.Prelude.{◌≡◌, ◌≢◌, ℕ, true, false, ◌&&◌, bytes_eq, IfOk, IfSome, IsErrOf};
+ghost use Rattle.std.specs.Prelude.{◌+◌, ◌≡◌, ◌≢◌, ℕ, true, false, ◌&&◌, bytes_eq, IfOk, IfSome, IsErrOf};
 ghost use Rattle.std.specs.List.{list_any};
 ghost use Rattle.std.specs.Option.{option_map};
 ghost use Rattle.account_core.specs.Messages.{named_message};
 ghost use Rattle.account_ledger.specs.Messages.{message_in};
 ghost use Rattle.keeper.specs.Files.{listed, has_row};
-ghost use Rattle.keeper.specs.Calls.{Changes, Renames};
+ghost use Rattle.keeper.specs.Calls.{Changes, Renames, Spends};
 ghost use Rattle.keeper.specs.Causes.{HasCause};
 ghost use Rattle.account_ledger.specs.NamedFiles.{file_named};
 ghost use Rattle.account_ledger.specs.Order.{IsInOrder};
@@ -45,6 +45,7 @@ impl<K: Keeper> AccountState<K> {
         ensures message { list_any (λ name. bytes_eq name mailbox.now) self.old.setup.mailboxes ≡ true
             → IfOk result (λ found. OfAccount self.old (λ account. named_message mailbox.now base.now account.messages ≡ option_map (message_in mailbox.now) found)) }
         ensures order { IsInOrder self.new }
+        ensures due { Changes (Spends (result ≡ Err StepError.Store) (self.old.faults + self.old.append_faults) (self.new.faults + self.new.append_faults)) self.old.told self.new.told }
         ensures cause { HasCause (result ≡ Err StepError.Store) self.old.faults self.new.faults }
         ensures never_full { (limit : ℕ) → result ≢ Err (StepError.JournalFull limit) }
     {
@@ -71,6 +72,7 @@ pub(crate) fn rename_file<K: Keeper>(
     requires free { (bytes_eq from.now to.now && bytes_eq name.now new_name.now) ≡ false → IfSome (K.told keeper.old) (λ t. has_row to.now new_name.now t.files.rows ≡ false) }
     ensures files { Changes (Renames from.now name.now to.now new_name.now result) (K.told keeper.old) (K.told keeper.new) }
     ensures cause { HasCause (IsErrOf result KeepError.Failed) (K.faults keeper.old) (K.faults keeper.new) }
+    ensures due { Changes (Spends (IsErrOf result KeepError.Failed) (K.faults keeper.old + K.append_faults keeper.old) (K.faults keeper.new + K.append_faults keeper.new)) (K.told keeper.old) (K.told keeper.new) }
     ensures appends { K.append_faults keeper.new ≡ K.append_faults keeper.old }
 {
     if from == to && name == new_name {

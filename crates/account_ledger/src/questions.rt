@@ -1,8 +1,9 @@
 // The questions on mailboxes: the status of one, and a scan of all.
-ghost use Rattle.std.specs.Prelude.{◌≡◌, ◌≢◌, ◌<◌, ◌⊎◌, ◌↔◌, ℕ, true, false, map, length, bytes_eq, IfOk, OnOk, IsErrOf, IsTrue};
+ghost use Rattle.std.specs.Prelude.{◌+◌, ◌≡◌, ◌≢◌, ◌<◌, ◌⊎◌, ◌↔◌, ℕ, true, false, map, length, bytes_eq, IfOk, OnOk, IsErrOf, IsTrue};
 ghost use Rattle.std.specs.List.{list_any};
 ghost use Rattle.quota_roots.specs.Governing.{governing};
 ghost use Rattle.keeper.specs.Causes.{HasCause, next_count};
+ghost use Rattle.keeper.specs.Calls.{Changes, Spends};
 ghost use Rattle.account_core.specs.Machine.{reply_of};
 ghost use Rattle.account_core.specs.Forms.{HasForm};
 ghost use Rattle.account_ledger.specs.Counting.{TellMailbox, mailbox_at};
@@ -23,6 +24,7 @@ impl<K: Keeper> AccountState<K> {
         requires { list_any (λ name. bytes_eq name mailbox.now) self.old.setup.mailboxes ≡ true }
         ensures looks { Looks self.old self.new }
         ensures files { IfOk result (λ files. OfAccount self.old (TellMailbox mailbox.now files.items)) }
+        ensures due { Changes (Spends (IsErrOf result KeepError.Failed) (self.old.faults + self.old.append_faults) (self.new.faults + self.new.append_faults)) self.old.told self.new.told }
         ensures cause { HasCause (IsErrOf result KeepError.Failed) self.old.faults self.new.faults }
     {
         self.keeper.list(alloc, mailbox)
@@ -33,6 +35,7 @@ impl<K: Keeper> AccountState<K> {
         requires { index < length self.old.setup.mailboxes }
         ensures looks { Looks self.old self.new }
         ensures files { IfOk result (λ files. OfAccount self.old (TellMailbox (mailbox_at self.old.setup.mailboxes index) files.items)) }
+        ensures due { Changes (Spends (IsErrOf result KeepError.Failed) (self.old.faults + self.old.append_faults) (self.new.faults + self.new.append_faults)) self.old.told self.new.told }
         ensures cause { HasCause (IsErrOf result KeepError.Failed) self.old.faults self.new.faults }
     {
         let mailbox = &self.setup.mailboxes.as_slice()[index as usize];
@@ -70,6 +73,7 @@ impl<K: Keeper> AccountState<K> {
         ensures form { IfOk result (HasForm self.old.setup.roots self.old.setup.mailboxes (Call.Status mailbox.now)) }
         ensures settles { SettlesSome (λ root. false) self.old self.new }
         ensures spared { result ≡ Err StepError.NoMemory → StayCalm self.old self.new }
+        ensures due { Changes (Spends (result ≡ Err StepError.Store) (self.old.faults + self.old.append_faults) (self.new.faults + self.new.append_faults)) self.old.told self.new.told }
         ensures cause { HasCause (result ≡ Err StepError.Store) self.old.faults self.new.faults }
         ensures never_full { (limit : ℕ) → result ≢ Err (StepError.JournalFull limit) }
     {
@@ -112,6 +116,7 @@ impl<K: Keeper> AccountState<K> {
         ensures settles { SettlesSome (λ root. false) self.old self.new }
         ensures lists { (self.new.lists ≡ self.old.lists) ⊎ (self.new.lists ≡ next_count self.old.lists) }
         ensures spared { result ≡ Err StepError.NoMemory → StayCalm self.old self.new }
+        ensures due { Changes (Spends (result ≡ Err StepError.Store) (self.old.faults + self.old.append_faults) (self.new.faults + self.new.append_faults)) self.old.told self.new.told }
         ensures cause { HasCause (result ≡ Err StepError.Store) self.old.faults self.new.faults }
         ensures never_full { (limit : ℕ) → result ≢ Err (StepError.JournalFull limit) }
     {

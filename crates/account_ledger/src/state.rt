@@ -11,7 +11,7 @@ ghost use Rattle.account_ledger.specs.Order.{IsInOrder};
 ghost use Rattle.account_ledger.specs.Serving.{Opened, OfAccount, SettlesSome, Enters, HasBytes, IsQuestion, IsServed, Leaves, ListsFor, Serves, ServesLedgers, ServesRows, Spares, StayCalm, is_place, misses, needs};
 ghost use Rattle.account_core.specs.Legality.{MayBeServed, fault_count};
 ghost use Rattle.account_core.specs.History.{entry_of};
-ghost use Rattle.keeper.specs.Calls.{Changes};
+ghost use Rattle.keeper.specs.Calls.{Changes, Spends};
 ghost use Rattle.quota_roots.specs.Setups.{IsSound};
 ghost use Rattle.account_opening.specs.Admitting.{IsRefused, MayOpen};
 ghost use Rattle.std.specs.Option.{option_map};
@@ -101,6 +101,8 @@ impl<K: Keeper> AccountState<K> {
         ensures cause { IfErr result (λ fault. HasCause (fault.cause ≡ OpenError.Store) (K.faults keeper) (K.faults fault.keeper)) }
         ensures appends { IfOk result (λ state. state.append_faults ≡ K.append_faults keeper) }
         ensures appends_then { IfErr result (λ fault. K.append_faults fault.keeper ≡ K.append_faults keeper) }
+        ensures due { IfOk result (λ state. Changes (Spends ⊥ (K.faults keeper + K.append_faults keeper) (state.faults + state.append_faults)) (K.told keeper) state.told) }
+        ensures due_then { IfErr result (λ fault. Changes (Spends (fault.cause ≡ OpenError.Store) (K.faults keeper + K.append_faults keeper) (K.faults fault.keeper + K.append_faults fault.keeper)) (K.told keeper) (K.told fault.keeper)) }
     {
         let mut keeper = keeper;
         let opened = Snapshot::of(&keeper);
@@ -190,6 +192,7 @@ impl<K: Keeper> AccountState<K> {
         ensures ledgers { ServesLedgers call result self.old self.new }
         ensures rows { Changes (OnFiles (λ files files'. ServesRows self.old.epoch call bytes.now result files.rows files'.rows)) self.old.told self.new.told }
         ensures spared { result ≡ Err StepError.NoMemory → Spares call self.old self.new }
+        ensures due { Changes (Spends (result ≡ Err StepError.Store) (self.old.faults + self.old.append_faults) (self.new.faults + self.new.append_faults)) self.old.told self.new.told }
         ensures cause { result ≡ Err StepError.Store → Rose self.old.faults self.new.faults }
         ensures lists { ListsFor call self.old.lists self.new.lists }
         ensures full { (limit : ℕ) → (result ≡ Err (StepError.JournalFull limit)) ↔ ((length self.old.history ≡ self.old.setup.journal) × (limit ≡ self.old.setup.journal)) }
@@ -223,6 +226,7 @@ impl<K: Keeper> AccountState<K> {
         ensures serves { Serves caller call bytes.now result self.old self.new }
         ensures form { IfOk result (HasForm self.old.setup.roots self.old.setup.mailboxes call) }
         ensures spared { result ≡ Err StepError.NoMemory → Spares call self.old self.new }
+        ensures due { Changes (Spends (result ≡ Err StepError.Store) (self.old.faults + self.old.append_faults) (self.new.faults + self.new.append_faults)) self.old.told self.new.told }
         ensures lists { ListsFor call self.old.lists self.new.lists }
         ensures never_full { (limit : ℕ) → result ≢ Err (StepError.JournalFull limit) }
     {
@@ -259,6 +263,7 @@ impl<K: Keeper> AccountState<K> {
         ensures serves { Serves caller call bytes.now result self.old self.new }
         ensures form { IfOk result (HasForm self.old.setup.roots self.old.setup.mailboxes call) }
         ensures spared { result ≡ Err StepError.NoMemory → StayCalm self.old self.new }
+        ensures due { Changes (Spends (result ≡ Err StepError.Store) (self.old.faults + self.old.append_faults) (self.new.faults + self.new.append_faults)) self.old.told self.new.told }
         ensures lists { ListsFor call self.old.lists self.new.lists }
         ensures never_full { (limit : ℕ) → result ≢ Err (StepError.JournalFull limit) }
     {
@@ -329,6 +334,7 @@ impl<K: Keeper> AccountState<K> {
         ensures missed { IfOk result (λ given. misses given ≡ true → (root : ℕ) → needs self.old.setup.roots call.now root ≡ false) }
         ensures lists { ListsFor call.now self.old.lists self.new.lists }
         ensures spared { result ≡ Err StepError.NoMemory → StayCalm self.old self.new }
+        ensures due { Changes (Spends (result ≡ Err StepError.Store) (self.old.faults + self.old.append_faults) (self.new.faults + self.new.append_faults)) self.old.told self.new.told }
         ensures cause { HasCause (result ≡ Err StepError.Store) self.old.faults self.new.faults }
         ensures never_full { (limit : ℕ) → result ≢ Err (StepError.JournalFull limit) }
     {
@@ -363,6 +369,7 @@ impl<K: Keeper> AccountState<K> {
         ensures settled { OnOk result (standing_at self.new.standings root ≡ Settled) }
         ensures settles { SettlesSome (nat_eq root) self.old self.new }
         ensures spared { result ≡ Err StepError.NoMemory → StayCalm self.old self.new }
+        ensures due { Changes (Spends (result ≡ Err StepError.Store) (self.old.faults + self.old.append_faults) (self.new.faults + self.new.append_faults)) self.old.told self.new.told }
         ensures cause { HasCause (result ≡ Err StepError.Store) self.old.faults self.new.faults }
         ensures never_full { (limit : ℕ) → result ≢ Err (StepError.JournalFull limit) }
     {
@@ -396,6 +403,7 @@ impl<K: Keeper> AccountState<K> {
         ensures settles { SettlesSome (comes_under self.old.setup.roots (option_map (λ m. m.now) from.entry) to.now) self.old self.new }
         ensures order { IsInOrder self.new }
         ensures spared { result ≡ Err StepError.NoMemory → StayCalm self.old self.new }
+        ensures due { Changes (Spends (result ≡ Err StepError.Store) (self.old.faults + self.old.append_faults) (self.new.faults + self.new.append_faults)) self.old.told self.new.told }
         ensures cause { HasCause (result ≡ Err StepError.Store) self.old.faults self.new.faults }
         ensures never_full { (limit : ℕ) → result ≢ Err (StepError.JournalFull limit) }
     {
@@ -456,6 +464,7 @@ impl<K: Keeper> AccountState<K> {
         ensures settles { SettlesSome (is_place (place_of self.old.setup.roots name.now)) self.old self.new }
         ensures missed { IfOk result (λ given. misses given ≡ true → (root : ℕ) → is_place (place_of self.old.setup.roots name.now) root ≡ false) }
         ensures spared { result ≡ Err StepError.NoMemory → StayCalm self.old self.new }
+        ensures due { Changes (Spends (result ≡ Err StepError.Store) (self.old.faults + self.old.append_faults) (self.new.faults + self.new.append_faults)) self.old.told self.new.told }
         ensures cause { HasCause (result ≡ Err StepError.Store) self.old.faults self.new.faults }
         ensures never_full { (limit : ℕ) → result ≢ Err (StepError.JournalFull limit) }
     {
@@ -484,6 +493,7 @@ impl<K: Keeper> AccountState<K> {
         ensures settles { SettlesSome (λ root. governs_at self.old.setup.roots root mailbox.now) self.old self.new }
         ensures there { IfOk result (λ given. misses given ≡ false) }
         ensures spared { result ≡ Err StepError.NoMemory → StayCalm self.old self.new }
+        ensures due { Changes (Spends (result ≡ Err StepError.Store) (self.old.faults + self.old.append_faults) (self.new.faults + self.new.append_faults)) self.old.told self.new.told }
         ensures cause { HasCause (result ≡ Err StepError.Store) self.old.faults self.new.faults }
         ensures never_full { (limit : ℕ) → result ≢ Err (StepError.JournalFull limit) }
     {
@@ -504,6 +514,7 @@ impl<K: Keeper> AccountState<K> {
         ensures settles { SettlesSome (λ root. governs_at self.old.setup.roots root (codes "INBOX")) self.old self.new }
         ensures there { IfOk result (λ given. misses given ≡ false) }
         ensures spared { result ≡ Err StepError.NoMemory → StayCalm self.old self.new }
+        ensures due { Changes (Spends (result ≡ Err StepError.Store) (self.old.faults + self.old.append_faults) (self.new.faults + self.new.append_faults)) self.old.told self.new.told }
         ensures cause { HasCause (result ≡ Err StepError.Store) self.old.faults self.new.faults }
         ensures never_full { (limit : ℕ) → result ≢ Err (StepError.JournalFull limit) }
     {

@@ -1,7 +1,7 @@
 // What stands against opening an account, mailbox by mailbox: no listing is kept behind its mailbox.
-ghost use Rattle.std.specs.Prelude.{◌≡◌, ◌++◌, codes, decimal, IfOk, IsErrOf};
+ghost use Rattle.std.specs.Prelude.{◌+◌, ◌≡◌, ◌++◌, codes, decimal, IfOk, IsErrOf};
 ghost use Rattle.keeper.specs.Causes.{HasCause};
-ghost use Rattle.keeper.specs.Calls.{Changes};
+ghost use Rattle.keeper.specs.Calls.{Changes, Spends};
 ghost use Rattle.account_opening.specs.Bases.{no_findings, with_mailbox};
 ghost use Rattle.account_opening.specs.Admitting.{Finds};
 
@@ -74,6 +74,7 @@ pub(crate) fn find<K: Keeper>(
 ) -> Result<Findings, KeepError>
     ensures files { Changes (Finds epoch mailboxes.now result) (K.told keeper.old) (K.told keeper.new) }
     ensures cause { HasCause (IsErrOf result KeepError.Failed) (K.faults keeper.old) (K.faults keeper.new) }
+    ensures due { Changes (Spends (IsErrOf result KeepError.Failed) (K.faults keeper.old + K.append_faults keeper.old) (K.faults keeper.new + K.append_faults keeper.new)) (K.told keeper.old) (K.told keeper.new) }
     ensures appends { K.append_faults keeper.new ≡ K.append_faults keeper.old }
 {
     let prefix = format!(in alloc; "{epoch}.")?;

@@ -4,3 +4,4 @@ pub mod PlaceLemmas
 pub mod PlanLemmas
 pub mod RowLemmas
 pub mod Changing
+pub mod Spending

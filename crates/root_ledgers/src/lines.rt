@@ -1,9 +1,9 @@
 // The lines that a change of usage writes behind ledgers.
-ghost use Rattle.std.specs.Prelude.{◌≡◌, ◌≢◌, ◌<◌, ◌≤◌, ℕ, All, true, false, List, length, Some, IfSome};
+ghost use Rattle.std.specs.Prelude.{◌≡◌, ◌+◌, ◌≢◌, ◌<◌, ◌≤◌, ℕ, All, true, false, List, length, Some, IfSome};
 ghost use Rattle.std.specs.Option.{option_map};
 ghost use Rattle.admission.specs.Fitting.{limits_at};
 ghost use Rattle.keeper.specs.Files.{ledger_at, ledger_bytes};
-ghost use Rattle.keeper.specs.Calls.{Changes, OneLedger};
+ghost use Rattle.keeper.specs.Calls.{Changes, OneLedger, Spends};
 ghost use Rattle.root_ledgers.specs.declared.book.Standing.TheVariants.{Settled};
 ghost use Rattle.root_ledgers.specs.Ledgers.{folded};
 ghost use Rattle.root_ledgers.specs.Lines.{HasCauses, FoldsShort, BookLined, BooksLined, LedgerLined, LedgersLined, fell_below, change_at, LineLedger, ChangedLedger, changed_book, fallen_by, fallen_at, has_room, line_by, lined_book};
@@ -33,6 +33,7 @@ fn append<K: Keeper>(keeper: &mut K, book: Book, root: u32, line: &[u8], totals:
     ensures small { AreSmall result.totals }
     ensures files { (text : List ℕ) → Changes (OnFiles (λ files files'. OneLedger root files files' × LineLedger true line.now text (ledger_at files root) result.standing (ledger_at files' root))) (K.told keeper.old) (K.told keeper.new) }
     ensures faults { K.faults keeper.new ≡ K.faults keeper.old }
+    ensures due { Changes (Spends (⊥) (K.faults keeper.old + K.append_faults keeper.old) (K.faults keeper.new + K.append_faults keeper.new)) (K.told keeper.old) (K.told keeper.new) }
     ensures appends { HasCauses (fallen_by true true result.standing) (K.append_faults keeper.old) (K.append_faults keeper.new) }
 {
     match keeper.append_ledger(root, line) {
@@ -60,6 +61,7 @@ fn fold<K: Keeper>(keeper: &mut K, limits: &Limits, book: Book, root: u32, total
     ensures book { (line : List ℕ) → has_room book.length line ≡ false → result ≡ lined_book line (folded limits.now totals) totals book result.standing }
     ensures files { (line : List ℕ) → Changes (OnFiles (λ files files'. OneLedger root files files' × LineLedger false line (folded limits.now totals) (ledger_at files root) result.standing (ledger_at files' root))) (K.told keeper.old) (K.told keeper.new) }
     ensures faults { HasCauses (fallen_by false false result.standing) (K.faults keeper.old) (K.faults keeper.new) }
+    ensures due { Changes (Spends (⊥) (K.faults keeper.old + K.append_faults keeper.old) (K.faults keeper.new + K.append_faults keeper.new)) (K.told keeper.old) (K.told keeper.new) }
     ensures appends { K.append_faults keeper.new ≡ K.append_faults keeper.old }
 {
     let mut text = Text::new();
@@ -97,6 +99,7 @@ fn post<K: Keeper>(
     ensures small { AreSmall result.totals }
     ensures files { Changes (OnFiles (λ files files'. OneLedger root files files' × ChangedLedger change octets limits.now book (ledger_at files root) result.standing (ledger_at files' root))) (K.told keeper.old) (K.told keeper.new) }
     ensures faults { HasCauses (fallen_by false (has_room book.length (line_by change octets)) result.standing) (K.faults keeper.old) (K.faults keeper.new) }
+    ensures due { Changes (Spends (⊥) (K.faults keeper.old + K.append_faults keeper.old) (K.faults keeper.new + K.append_faults keeper.new)) (K.told keeper.old) (K.told keeper.new) }
     ensures appends { HasCauses (fallen_by true (has_room book.length (line_by change octets)) result.standing) (K.append_faults keeper.old) (K.append_faults keeper.new) }
 {
     let mut line = Text::new();
@@ -133,6 +136,7 @@ fn post_at<K: Keeper>(
     ensures others { (other : ℕ) → other ≢ root → book_at books.new.items other ≡ book_at books.old.items other }
     ensures files { Changes (OnFiles (λ files files'. OneLedger root files files' × LedgerLined (change_at roots.now (option_map (λ m. m.now) from.entry) (option_map (λ m. m.now) to.entry) root) octets (limits_at limits.now root) (book_at books.old.items root) (book_at books.new.items root).standing (ledger_at files root) (ledger_at files' root))) (K.told keeper.old) (K.told keeper.new) }
     ensures faults { HasCauses (fallen_at false (change_at roots.now (option_map (λ m. m.now) from.entry) (option_map (λ m. m.now) to.entry) root) octets (book_at books.old.items root).standing (book_at books.old.items root).length (book_at books.new.items root).standing) (K.faults keeper.old) (K.faults keeper.new) }
+    ensures due { Changes (Spends (⊥) (K.faults keeper.old + K.append_faults keeper.old) (K.faults keeper.new + K.append_faults keeper.new)) (K.told keeper.old) (K.told keeper.new) }
     ensures appends { HasCauses (fallen_at true (change_at roots.now (option_map (λ m. m.now) from.entry) (option_map (λ m. m.now) to.entry) root) octets (book_at books.old.items root).standing (book_at books.old.items root).length (book_at books.new.items root).standing) (K.append_faults keeper.old) (K.append_faults keeper.new) }
 {
     let book = books[root as usize];
@@ -166,6 +170,7 @@ pub fn write_lines<K: Keeper>(
     ensures small { All (λ book. AreSmall book.totals) books.new.items }
     ensures files { Changes (OnFiles (LedgersLined (length roots.now) (change_at roots.now (option_map (λ m. m.now) from.entry) (option_map (λ m. m.now) to.entry)) octets limits.now books.old.items books.new.items)) (K.told keeper.old) (K.told keeper.new) }
     ensures faults { HasCauses (fell_below (length roots.now) false (change_at roots.now (option_map (λ m. m.now) from.entry) (option_map (λ m. m.now) to.entry)) octets books.old.items books.new.items) (K.faults keeper.old) (K.faults keeper.new) }
+    ensures due { Changes (Spends (⊥) (K.faults keeper.old + K.append_faults keeper.old) (K.faults keeper.new + K.append_faults keeper.new)) (K.told keeper.old) (K.told keeper.new) }
     ensures appends { HasCauses (fell_below (length roots.now) true (change_at roots.now (option_map (λ m. m.now) from.entry) (option_map (λ m. m.now) to.entry)) octets books.old.items books.new.items) (K.append_faults keeper.old) (K.append_faults keeper.new) }
 {
     for root in 0..roots.count() {

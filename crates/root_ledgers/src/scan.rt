@@ -1,7 +1,7 @@
 // A fresh scan of the files of an account.
 ghost use Rattle.std.specs.Prelude.{◌≡◌, ◌+◌, ◌<◌, ◌^◌, length, IfOk, IsErrOf};
 ghost use Rattle.keeper.specs.Causes.{HasCause};
-ghost use Rattle.keeper.specs.Calls.{Changes};
+ghost use Rattle.keeper.specs.Calls.{Changes, Spends};
 ghost use Rattle.root_ledgers.specs.Scans.{AreSmall, cut_totals, scan, size_of_file, sizes_of};
 ghost use Rattle.root_ledgers.specs.Scanning.{Scans};
 
@@ -66,6 +66,7 @@ pub(crate) fn scan_root<K: Keeper>(
     ensures files { Changes (Scans setup.now.roots root setup.now.mailboxes result) (K.told keeper.old) (K.told keeper.new) }
     ensures small { IfOk result AreSmall }
     ensures cause { HasCause (IsErrOf result KeepError.Failed) (K.faults keeper.old) (K.faults keeper.new) }
+    ensures due { Changes (Spends (IsErrOf result KeepError.Failed) (K.faults keeper.old + K.append_faults keeper.old) (K.faults keeper.new + K.append_faults keeper.new)) (K.told keeper.old) (K.told keeper.new) }
     ensures appends { K.append_faults keeper.new ≡ K.append_faults keeper.old }
 {
     let mut totals = Totals {

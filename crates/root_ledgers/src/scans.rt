@@ -1,7 +1,7 @@
 // Fresh scans of several roots: each mailbox is listed once for all of them.
-ghost use Rattle.std.specs.Prelude.{◌≡◌, ◌<◌, ◌^◌, ℕ, true, false, is_some, length, IfOk, IfSome, IsErrOf};
+ghost use Rattle.std.specs.Prelude.{◌≡◌, ◌+◌, ◌<◌, ◌^◌, ℕ, true, false, is_some, length, IfOk, IfSome, IsErrOf};
 ghost use Rattle.keeper.specs.Causes.{HasCause};
-ghost use Rattle.keeper.specs.Calls.{Changes};
+ghost use Rattle.keeper.specs.Calls.{Changes, Spends};
 ghost use Rattle.std.specs.Option.{option_map};
 ghost use Rattle.quota_roots.specs.Governing.{governs_at};
 ghost use Rattle.root_ledgers.specs.Scans.{AreSmall};
@@ -111,6 +111,7 @@ pub(crate) fn scan_coming<K: Keeper>(
     ensures files { Changes (ScansEach setup.now.roots setup.now.mailboxes result) (K.told keeper.old) (K.told keeper.new) }
     ensures scans { IfOk result (λ scans. AreScans (length setup.now.roots) (λ root. is_wanted (comes_under setup.now.roots (option_map (λ m. m.now) from.entry) to.now root) (book_at books.now root).standing) scans.items) }
     ensures cause { HasCause (IsErrOf result KeepError.Failed) (K.faults keeper.old) (K.faults keeper.new) }
+    ensures due { Changes (Spends (IsErrOf result KeepError.Failed) (K.faults keeper.old + K.append_faults keeper.old) (K.faults keeper.new + K.append_faults keeper.new)) (K.told keeper.old) (K.told keeper.new) }
     ensures appends { K.append_faults keeper.new ≡ K.append_faults keeper.old }
 {
     let mut scans = empty_scans(alloc, &setup.roots, books, from, to)?;

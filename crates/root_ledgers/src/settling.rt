@@ -1,7 +1,7 @@
 // Roots in doubt are settled.
-ghost use Rattle.std.specs.Prelude.{◌≡◌, ◌<◌, ℕ, true, length, nat_eq, IfSome, OnOk, IsErr, IsErrOf, All};
+ghost use Rattle.std.specs.Prelude.{◌≡◌, ◌+◌, ◌<◌, ℕ, true, length, nat_eq, IfSome, OnOk, IsErr, IsErrOf, All};
 ghost use Rattle.keeper.specs.Causes.{HasCause};
-ghost use Rattle.keeper.specs.Calls.{Changes};
+ghost use Rattle.keeper.specs.Calls.{Changes, Spends};
 ghost use Rattle.std.specs.Option.{option_map};
 ghost use Rattle.root_ledgers.specs.declared.book.Standing.TheVariants.{Settled, Doubt};
 ghost use Rattle.root_ledgers.specs.Scans.{AreSmall, scan};
@@ -41,6 +41,7 @@ fn settle_by<K: Keeper>(
     ensures small { All (λ book. AreSmall book.totals) books.new.items }
     ensures settled { OnOk result ((book_at books.new.items root).standing ≡ Settled) }
     ensures cause { HasCause (IsErr result) (K.faults keeper.old) (K.faults keeper.new) }
+    ensures due { Changes (Spends (IsErr result) (K.faults keeper.old + K.append_faults keeper.old) (K.faults keeper.new + K.append_faults keeper.new)) (K.told keeper.old) (K.told keeper.new) }
     ensures appends { K.append_faults keeper.new ≡ K.append_faults keeper.old }
 {
     // The account has at most four roots.
@@ -81,6 +82,7 @@ pub fn settle<K: Keeper>(
     ensures settled { OnOk result ((book_at books.new.items root).standing ≡ Settled) }
     ensures spared { IsErrOf result KeepError.NoMemory → Spared books.old.items books.new.items (K.told keeper.old) (K.told keeper.new) }
     ensures cause { HasCause (IsErrOf result KeepError.Failed) (K.faults keeper.old) (K.faults keeper.new) }
+    ensures due { Changes (Spends (IsErrOf result KeepError.Failed) (K.faults keeper.old + K.append_faults keeper.old) (K.faults keeper.new + K.append_faults keeper.new)) (K.told keeper.old) (K.told keeper.new) }
     ensures appends { K.append_faults keeper.new ≡ K.append_faults keeper.old }
 {
     if let Standing::Settled = books[root as usize].standing {
@@ -114,6 +116,7 @@ pub fn settle_coming<K: Keeper>(
     ensures settled { OnOk result ((root : ℕ) → comes_under setup.now.roots (option_map (λ m. m.now) from.entry) to.now root ≡ true → (book_at books.new.items root).standing ≡ Settled) }
     ensures spared { IsErrOf result KeepError.NoMemory → Spared books.old.items books.new.items (K.told keeper.old) (K.told keeper.new) }
     ensures cause { HasCause (IsErrOf result KeepError.Failed) (K.faults keeper.old) (K.faults keeper.new) }
+    ensures due { Changes (Spends (IsErrOf result KeepError.Failed) (K.faults keeper.old + K.append_faults keeper.old) (K.faults keeper.new + K.append_faults keeper.new)) (K.told keeper.old) (K.told keeper.new) }
     ensures appends { K.append_faults keeper.new ≡ K.append_faults keeper.old }
 {
     let scans = scan_coming(alloc, keeper, setup, books, from, to)?;

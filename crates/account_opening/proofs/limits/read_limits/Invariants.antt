@@ -1,5 +1,5 @@
-use Rattle.std.proofs.Common.{◌≡◌, length}
-use Rattle.keeper.specs.Calls.{Changes}
+use Rattle.std.proofs.Common.{◌≡◌, ◌+◌, length}
+use Rattle.keeper.specs.Calls.{Changes, Spends}
 use Rattle.account_opening.specs.Limits.{ReadsSome}
 use Rattle.account_opening.proofs.limits.read_limits.Given as goal
 
@@ -9,3 +9,4 @@ invariant-loop-root g l =
     × (length l.limits.items ≡ l.root)
     × (g.K.Keeper.faults l.keeper ≡ g.K.Keeper.faults l.initial.keeper)
     × (g.K.Keeper.append_faults l.keeper ≡ g.K.Keeper.append_faults l.initial.keeper)
+    × Changes (Spends ⊥ (g.K.Keeper.faults l.initial.keeper + g.K.Keeper.append_faults l.initial.keeper) (g.K.Keeper.faults l.keeper + g.K.Keeper.append_faults l.keeper)) (g.K.Keeper.told l.initial.keeper) (g.K.Keeper.told l.keeper)

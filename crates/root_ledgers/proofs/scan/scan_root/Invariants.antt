@@ -1,5 +1,5 @@
-use Rattle.std.proofs.Common.{◌≡◌, take}
-use Rattle.keeper.specs.Calls.{Changes}
+use Rattle.std.proofs.Common.{◌≡◌, ◌+◌, take}
+use Rattle.keeper.specs.Calls.{Changes, Spends}
 use Rattle.root_ledgers.specs.Scans.{AreSmall}
 use Rattle.root_ledgers.specs.Scanning.{ScansSome}
 use Rattle.root_ledgers.proofs.scan.scan_root.Given as goal
@@ -10,3 +10,4 @@ invariant-loop-mailbox g l =
     × AreSmall l.totals
     × (g.K.Keeper.faults l.keeper ≡ g.K.Keeper.faults l.initial.keeper)
     × (g.K.Keeper.append_faults l.keeper ≡ g.K.Keeper.append_faults l.initial.keeper)
+    × Changes (Spends ⊥ (g.K.Keeper.faults l.initial.keeper + g.K.Keeper.append_faults l.initial.keeper) (g.K.Keeper.faults l.keeper + g.K.Keeper.append_faults l.keeper)) (g.K.Keeper.told l.initial.keeper) (g.K.Keeper.told l.keeper)

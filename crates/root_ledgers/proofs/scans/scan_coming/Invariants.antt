@@ -1,5 +1,5 @@
-use Rattle.std.proofs.Common.{◌≡◌, length, take}
-use Rattle.keeper.specs.Calls.{Changes}
+use Rattle.std.proofs.Common.{◌≡◌, ◌+◌, length, take}
+use Rattle.keeper.specs.Calls.{Changes, Spends}
 use Rattle.std.specs.Option.{option_map}
 use Rattle.root_ledgers.specs.Scanning.{AreScans, ScansList, is_wanted}
 use Rattle.root_ledgers.specs.Settling.{book_at, comes_under}
@@ -11,4 +11,5 @@ invariant-loop-mailbox g l = record {
   scans : AreScans (length l.setup.roots) (λ root. is_wanted (comes_under l.setup.roots (option_map (λ m. m.now) l.from) l.to root) (book_at l.books root).standing) l.scans.items;
   faults : g.K.Keeper.faults l.keeper ≡ g.K.Keeper.faults l.initial.keeper;
   appends : g.K.Keeper.append_faults l.keeper ≡ g.K.Keeper.append_faults l.initial.keeper;
+  due : Changes (Spends ⊥ (g.K.Keeper.faults l.initial.keeper + g.K.Keeper.append_faults l.initial.keeper) (g.K.Keeper.faults l.keeper + g.K.Keeper.append_faults l.keeper)) (g.K.Keeper.told l.initial.keeper) (g.K.Keeper.told l.keeper);
 }

@@ -4,6 +4,7 @@ use denote.Ref.{Bor}
 use Rattle.root_ledgers.specs.Scanning.{IsFresh, scan_at}
 use Rattle.root_ledgers.specs.Settling.{comes_under}
 use Rattle.root_ledgers.proofs.SettleLemmas.{settles_then, marks_then, only_one, comes_inside, settled_more, settled_stays, wanted_may, unwanted_settled, rows_still, left_more, scan_here, settled_here}
+use Rattle.keeper.proofs.Spending.{spends_not, spends_then}
 use Rattle.root_ledgers.proofs.settling.settle_coming.Goals as goal
 use Rattle.root_ledgers.proofs.settling.settle_coming.Goals.{in-Some+in_ok-settle_by, in_default}
 
@@ -37,6 +38,7 @@ loop-root-preserved g c =
             settled = settled_more may root _ _ before.settled w.settle_by.ensures.marks w.in_ok-settle_by.ensures.settled;
             faults = w.in_ok-settle_by.ensures.cause.kept (search rules) ∙ before.faults;
             appends = w.settle_by.ensures.appends ∙ before.appends;
+            due = spends_then ⊥ ⊥ _ _ _ _ _ _ (omega (arith, before.faults, before.appends)) before.due (spends_not _ ⊥ _ _ _ _ (λ none. absurd none) w.settle_by.ensures.due);
           })
       | in_default w ↦ rw (w.keeper-is, w.books-is) (record {
         files = before.files;
@@ -47,6 +49,7 @@ loop-root-preserved g c =
         settled = settled_here may root _ before.settled (λ is. settled_stays _ _ _ (before.marks.each root) (unwanted_settled (may root) _ _ scanned w.in_default.is is));
         faults = before.faults;
         appends = before.appends;
+        due = before.due;
       })
     ]
 

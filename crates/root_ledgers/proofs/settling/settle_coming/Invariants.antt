@@ -1,7 +1,7 @@
-use Rattle.std.proofs.Common.{◌≡◌, ◌<◌, ◌≤◌, ℕ, true}
+use Rattle.std.proofs.Common.{◌≡◌, ◌+◌, ◌<◌, ◌≤◌, ℕ, true}
 use Rattle.std.specs.List.{All}
 use Rattle.std.specs.Prelude.{IfSome}
-use Rattle.keeper.specs.Calls.{Changes}
+use Rattle.keeper.specs.Calls.{Changes, Spends}
 use Rattle.std.specs.Option.{option_map}
 use Rattle.root_ledgers.specs.declared.book.Standing.TheVariants.{Settled}
 use Rattle.root_ledgers.specs.Scans.{AreSmall}
@@ -19,4 +19,5 @@ invariant-loop-root g l = record {
   settled : (root : ℕ) → root < l.root → comes_under l.setup.roots (option_map (λ m. m.now) l.from) l.to root ≡ true → (book_at l.books.items root).standing ≡ Settled;
   faults : g.K.Keeper.faults l.keeper ≡ g.K.Keeper.faults l.fn.keeper;
   appends : g.K.Keeper.append_faults l.keeper ≡ g.K.Keeper.append_faults l.fn.keeper;
+  due : Changes (Spends ⊥ (g.K.Keeper.faults l.fn.keeper + g.K.Keeper.append_faults l.fn.keeper) (g.K.Keeper.faults l.keeper + g.K.Keeper.append_faults l.keeper)) (g.K.Keeper.told l.fn.keeper) (g.K.Keeper.told l.keeper);
 }
