@@ -1,5 +1,5 @@
 // A message is delivered: it is put into its mailbox, the ledgers of the mailbox's roots get its line, and the call is entered.
-ghost use Rattle.std.specs.Prelude.{◌≡◌, ◌≢◌, ◌<◌, ◌≤◌, ◌+◌, ◌-◌, ◌^◌, min, ◌++◌, ◌∷◌, [], ℕ, true, false, Some, None, Ok, length, bytes_eq, IfOk, OnOk, OnErr, IsErr, IsTrue};
+ghost use Rattle.std.specs.Prelude.{◌≡◌, ◌≢◌, ◌<◌, ◌≤◌, ◌+◌, ◌-◌, ◌^◌, min, ◌++◌, ◌∷◌, [], ℕ, true, false, Some, None, Ok, length, bytes_eq, IfOk, OnOk};
 ghost use Rattle.std.specs.List.{list_any};
 ghost use Rattle.std.specs.Option.{option_map};
 ghost use Rattle.keeper.specs.Calls.{Changes, Spends};
@@ -15,7 +15,7 @@ ghost use Rattle.account_core.specs.Legality.{MayBeServed, fault_count};
 ghost use Rattle.root_ledgers.specs.declared.book.Standing.TheVariants.{Settled};
 ghost use Rattle.account_ledger.specs.Order.{IsInOrder};
 ghost use Rattle.account_ledger.specs.Rows.{IsInside, IsVerdict};
-ghost use Rattle.account_ledger.specs.Serving.{Enters, Leaves, LedgersStay, SettlesSome, ServesRows, Spares, WritesBy, misses, OfAccount, Opened, Serves, StayCalm, WritesLines};
+ghost use Rattle.account_ledger.specs.Serving.{Enters, SettlesSome, ServesRows, Spares, WritesBy, misses, OfAccount, Opened, Serves, StayCalm};
 ghost use Rattle.root_ledgers.specs.Settling.{OnFiles, comes_under, coming};
 ghost use Rattle.account_ledger.specs.States.{standing_at};
 

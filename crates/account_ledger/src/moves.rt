@@ -1,20 +1,17 @@
 // A message moves to another mailbox: its file moves, roots that it leaves or comes under get its line, and the call is entered.
-ghost use Rattle.std.specs.Prelude.{◌+◌, ◌≡◌, ◌≢◌, ◌<◌, [], ℕ, true, false, Some, None, length, bytes_eq, IfOk, IfSome, OnOk};
+ghost use Rattle.std.specs.Prelude.{◌+◌, ◌≡◌, ◌≢◌, ◌<◌, [], ℕ, true, false, Some, None, length, bytes_eq, IfOk, IfSome};
 ghost use Rattle.std.specs.List.{list_any};
 ghost use Rattle.quota_roots.specs.Governing.{gaining};
 ghost use Rattle.keeper.specs.Calls.{Changes, Spends};
-ghost use Rattle.keeper.specs.Causes.{HasCause, Rose};
+ghost use Rattle.keeper.specs.Causes.{Rose};
 ghost use Rattle.keeper.specs.Files.{listed};
 ghost use Rattle.account_core.specs.Machine.{over_of, reply_of};
 ghost use Rattle.account_core.specs.Forms.{HasForm};
 ghost use Rattle.account_core.specs.Legality.{MayMove};
-ghost use Rattle.root_ledgers.specs.declared.book.Standing.TheVariants.{Settled};
 ghost use Rattle.account_ledger.specs.Messages.{message_in};
 ghost use Rattle.account_ledger.specs.NamedFiles.{IsThere, file_named};
-ghost use Rattle.account_ledger.specs.Rows.{IsVerdict};
-ghost use Rattle.account_ledger.specs.Serving.{Enters, OfAccount, Opened, Serves, ServesRows, SettlesSome, Spares, WritesBy, misses};
+ghost use Rattle.account_ledger.specs.Serving.{Enters, OfAccount, Opened, Serves, ServesRows, Spares, WritesBy, misses};
 ghost use Rattle.root_ledgers.specs.Settling.{OnFiles};
-ghost use Rattle.account_ledger.specs.States.{standing_at};
 
 use crate::AccountState;
 use crate::fault::step_error;

@@ -1,10 +1,9 @@
 // A message is removed: its file is removed, the settled roots of its mailbox get its line, and the call is entered.
-ghost use Rattle.std.specs.Prelude.{◌≡◌, ◌≢◌, ◌<◌, ◌+◌, ◌-◌, ◌^◌, ◌++◌, ◌∷◌, [], ℕ, true, false, Some, length, min, bytes_eq, IfOk, IfSome};
+ghost use Rattle.std.specs.Prelude.{◌≡◌, ◌≢◌, ◌<◌, ◌+◌, [], ℕ, true, false, Some, length, bytes_eq, IfOk, IfSome};
 ghost use Rattle.std.specs.List.{list_any};
 ghost use Rattle.keeper.specs.Calls.{Changes, Spends};
 ghost use Rattle.keeper.specs.Causes.{Rose};
 ghost use Rattle.keeper.specs.Files.{listed};
-ghost use Rattle.account_core.specs.Legality.{MayBeServed};
 ghost use Rattle.account_core.specs.Machine.{reply_of};
 ghost use Rattle.account_core.specs.Forms.{HasForm};
 ghost use Rattle.account_ledger.specs.NamedFiles.{file_named};

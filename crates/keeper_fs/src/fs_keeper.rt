@@ -1,4 +1,4 @@
-ghost use Rattle.std.specs.Prelude.{◌≡◌, ◌≤◌, ◌<◌, ◌&&◌, ℕ, None, false, Option, length, IsErr, IsErrOf, IfOk, All};
+ghost use Rattle.std.specs.Prelude.{◌≡◌, ◌≤◌, ◌<◌, ◌&&◌, None, false, Option, length, IsErr, IsErrOf, IfOk, All};
 ghost use Rattle.std.specs.String.{string_bytes};
 ghost use Rattle.keeper.specs.Causes.{HasCause, next_count};
 ghost use Rattle.keeper_fs.specs.Names.{is_file_name};

@@ -1,4 +1,4 @@
-ghost use Rattle.std.specs.Prelude.{◌≡◌, ◌≤◌, false, length, IfOk, All};
+ghost use Rattle.std.specs.Prelude.{◌≡◌, false, length, IfOk, All};
 ghost use Rattle.keeper_fs.specs.Names.{is_file_name};
 ghost use Rattle.keeper_fs.specs.Rows.{IsMessageRow};
 

@@ -1,5 +1,5 @@
 // Fresh scans of several roots: each mailbox is listed once for all of them.
-ghost use Rattle.std.specs.Prelude.{◌≡◌, ◌+◌, ◌<◌, ◌^◌, ℕ, true, false, is_some, length, IfOk, IfSome, IsErrOf};
+ghost use Rattle.std.specs.Prelude.{◌≡◌, ◌+◌, ◌<◌, ℕ, true, false, is_some, length, IfOk, IfSome, IsErrOf};
 ghost use Rattle.keeper.specs.Causes.{HasCause};
 ghost use Rattle.keeper.specs.Calls.{Changes, Spends};
 ghost use Rattle.std.specs.Option.{option_map};
