@@ -4,15 +4,13 @@ use Rattle.std.specs.Fmt.{decimal}
 use Rattle.std.specs.List.{list_all}
 use Rattle.std.specs.Char.{is_ascii_digit}
 use Rattle.std.proofs.lemmas.Fmt.{decimal_nonempty, decimal_is_IsNumeral}
+use Rattle.std.proofs.lemmas.Bool.{and_parts}
 use Rattle.std.proofs.lemmas.Bool.Decides.{nat_tests}
 use Rattle.std.proofs.lemmas.List.Folds.{list_all-append}
 use Rattle.quota_units.proofs.DigitLemmas.{digits_all}
 use Rattle.message_names.specs.Written.{is_base, is_base_byte}
 use Rattle.account_core.specs.Delivering.{delivered_base}
 use Rattle.account_core.proofs.DeliveredLemmas.{base_is}
-
-and_parts : (a b : Bool) → (a && b) ≡ true → (a ≡ true) × (b ≡ true)
-and_parts a b h = grind (arith, nat_tests)
 
 digit_is_base : (c : ℕ) → is_ascii_digit c ≡ true → (is_base_byte c ≡ true) × (not (c == 46) ≡ true)
 digit_is_base c h = grind (arith, nat_tests)

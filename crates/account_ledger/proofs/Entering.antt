@@ -7,7 +7,7 @@ use Rattle.quota_roots.specs.declared.root.RootSpec.{RootSpec}
 use Rattle.quota_roots.specs.declared.setup.Setup.{Setup}
 use Rattle.keeper.specs.Files.{Files}
 use Rattle.keeper.specs.Calls.{Told, Changes}
-use Rattle.keeper.specs.Causes.{Rose}
+use Rattle.quota_units.specs.Causes.{Rose}
 use Rattle.account_core.specs.declared.calls.Call.{Call}
 use Rattle.account_core.specs.declared.calls.Call.TheVariants.{Deliver, Check, Remove, Mark, Move, Quota, SetLimits, Roots, Status, ScanBegin, ScanPart, Install}
 use Rattle.account_core.specs.declared.calls.Entry.{Entry}

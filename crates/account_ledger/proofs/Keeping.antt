@@ -13,7 +13,8 @@ use Rattle.account_ledger.specs.declared.counts.Counts.{Counts}
 use Rattle.root_ledgers.specs.declared.book.Book.{Book}
 use Rattle.root_ledgers.specs.declared.book.Standing.TheVariants.{Settled}
 use Rattle.account_ledger.specs.Messages.{StandFor}
-use Rattle.root_ledgers.specs.Scans.{AreSmall, scan}
+use Rattle.quota_units.specs.Sums.{AreSmall}
+use Rattle.root_ledgers.specs.Scans.{scan}
 use Rattle.root_ledgers.specs.Ledgers.{IsRight}
 use Rattle.root_ledgers.specs.Settling.{OnFiles, book_at, SettlesOrStays, Settling, Marks, IsKept}
 use Rattle.account_ledger.specs.Opening.{opening_account}

@@ -12,7 +12,7 @@ use Rattle.quota_roots.specs.declared.setup.Setup.{Setup}
 use Rattle.quota_roots.specs.RootLists.{place_of}
 use Rattle.keeper.specs.Files.{Files, ledger_at, ledger_bytes}
 use Rattle.keeper.specs.Calls.{Told, Changes, Writes}
-use Rattle.keeper.specs.Causes.{Rose}
+use Rattle.quota_units.specs.Causes.{Rose}
 use Rattle.admission.specs.Fitting.{limits_at}
 use Rattle.account_core.specs.declared.calls.Call.TheVariants.{SetLimits}
 use Rattle.account_core.specs.declared.calls.Entry.{Entry}
@@ -25,7 +25,7 @@ use Rattle.account_ledger.specs.declared.counts.Counts.{Counts}
 use Rattle.root_ledgers.specs.declared.book.Book.{Book}
 use Rattle.root_ledgers.specs.declared.book.Standing.TheVariants.{Settled}
 use Rattle.account_ledger.specs.Messages.{StandFor}
-use Rattle.root_ledgers.specs.Scans.{AreSmall}
+use Rattle.quota_units.specs.Sums.{AreSmall}
 use Rattle.root_ledgers.specs.Ledgers.{folded}
 use Rattle.root_ledgers.specs.Settling.{OnFiles, no_book, book_at, standings_of, folded_book, IsKept}
 use Rattle.account_ledger.specs.Opening.{opening_account, opening_of}

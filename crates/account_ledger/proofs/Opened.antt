@@ -28,7 +28,7 @@ use Rattle.account_ledger.specs.Opening.{opening_account}
 use Rattle.account_opening.specs.Limits.{opening_limits}
 use Rattle.account_opening.specs.Bases.{listings, how_many_files, base_in, times_in, double_in, first_double, is_of_epoch, used_in, first_used}
 use Rattle.account_opening.specs.Admitting.{CanOpen}
-use Rattle.root_ledgers.specs.Scans.{AreSmall}
+use Rattle.quota_units.specs.Sums.{AreSmall}
 use Rattle.keeper.specs.Calls.{Told, Changes}
 use Rattle.account_ledger.specs.Order.{Holds, InOrder}
 use Rattle.keeper.proofs.Changing.{changes_weaken}

@@ -20,7 +20,7 @@ use Rattle.root_ledgers.specs.declared.book.Book.{Book}
 use Rattle.root_ledgers.specs.Lines.{change_at, BooksLined, LedgersLined}
 use Rattle.account_ledger.specs.Opening.{opening_account, opening_of}
 use Rattle.account_ledger.specs.Order.{Holds, InOrder}
-use Rattle.root_ledgers.specs.Scans.{AreSmall}
+use Rattle.quota_units.specs.Sums.{AreSmall}
 use Rattle.root_ledgers.specs.Settling.{OnFiles}
 use Rattle.keeper.proofs.Changing.{changes_weaken}
 use Rattle.account_ledger.proofs.Entering.{served_more, excused_still}

@@ -25,7 +25,8 @@ use Rattle.account_ledger.specs.Counting.{TellMailbox, mailbox_at, sums_of, unse
 use Rattle.account_ledger.specs.Messages.{message_in}
 use Rattle.account_ledger.specs.Opening.{opening_account, opening_of}
 use Rattle.account_ledger.specs.Order.{Holds, InOrder}
-use Rattle.root_ledgers.specs.Scans.{cut, cut_totals, sizes_of}
+use Rattle.quota_units.specs.Sums.{cut, cut_totals}
+use Rattle.root_ledgers.specs.Scans.{sizes_of}
 use Rattle.account_ledger.proofs.CountingLemmas.{listed_tell}
 use Rattle.account_ledger.proofs.Replying.{of_both}
 use Rattle.root_ledgers.proofs.Sums.{sum_ones}

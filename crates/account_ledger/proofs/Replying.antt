@@ -8,7 +8,7 @@ use Rattle.std.proofs.lemmas.Bool.{cases_lt}
 use Rattle.std.proofs.lemmas.List.{get_or_past, map-append, take_more, take_more_set}
 use Rattle.quota_units.specs.Limiting.{LimitNumbers, IsLimit, AreLimits}
 use Rattle.quota_units.specs.declared.resource.Resource.TheVariants.{Storage, Message as MessageCount}
-use Rattle.root_ledgers.specs.Scans.{cut}
+use Rattle.quota_units.specs.Sums.{cut}
 use Rattle.quota_units.specs.declared.totals.Totals.{Totals}
 use Rattle.quota_units.specs.declared.resource.Resource.{Resource}
 use Rattle.quota_roots.specs.declared.root.RootSpec.{RootSpec}

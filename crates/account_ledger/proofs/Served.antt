@@ -4,7 +4,7 @@ use Rattle.std.specs.Prelude.{Result, Ok, Err, IfOk, IfSome, ◌⊎◌}
 use Rattle.std.proofs.lemmas.List.{ext_get_or}
 use Rattle.keeper.specs.Files.{Files, Row, ledger_at}
 use Rattle.keeper.specs.Calls.{Told, Changes}
-use Rattle.keeper.specs.Causes.{Rose}
+use Rattle.quota_units.specs.Causes.{Rose}
 use Rattle.account_core.specs.declared.calls.Call.{Call}
 use Rattle.account_core.specs.declared.calls.Call.TheVariants.{Deliver, Check, Quota, SetLimits, Roots, Remove, Mark, Move, Status, ScanBegin, ScanPart, Install}
 use Rattle.account_core.specs.declared.calls.Entry.{Entry}

@@ -16,7 +16,8 @@ use Rattle.account_ledger.specs.declared.counts.Counts.{Counts}
 use Rattle.root_ledgers.specs.declared.book.Book.{Book}
 use Rattle.root_ledgers.specs.declared.book.Standing.{Standing}
 use Rattle.root_ledgers.specs.declared.book.Standing.TheVariants.{Settled, Doubt}
-use Rattle.root_ledgers.specs.Settling.{OnFiles, no_book, book_at, standings_of, Settling, SettlesOrStays, Marks, MarksOne, comes_under, coming}
+use Rattle.quota_roots.specs.Governing.{comes_under, coming}
+use Rattle.root_ledgers.specs.Settling.{OnFiles, no_book, book_at, standings_of, Settling, SettlesOrStays, Marks, MarksOne}
 use Rattle.account_ledger.specs.Opening.{opening_of, opening_account}
 use Rattle.root_ledgers.specs.Scans.{scan}
 use Rattle.admission.specs.Fitting.{limits_at, first_over, totals_at}

@@ -9,7 +9,8 @@ use Rattle.keeper.specs.declared.rows.FileRow.{FileRow}
 use Rattle.account_core.specs.Account.{Account, Message, counted, usage}
 use Rattle.account_core.proofs.Admitting.{totals_at-usages, same_totals}
 use Rattle.account_ledger.specs.Messages.{message_in, messages_of, messages_in, StandFor}
-use Rattle.root_ledgers.specs.Scans.{cut, scan, scanned_octets, scanned_count, size_of_file}
+use Rattle.quota_units.specs.Sums.{cut}
+use Rattle.root_ledgers.specs.Scans.{scan, scanned_octets, scanned_count, size_of_file}
 use Rattle.account_ledger.specs.States.{usage_at}
 use Rattle.account_ledger.specs.Order.{fresh_scan}
 use Rattle.root_ledgers.proofs.Sums.{same_sums, sum_map, sum_flat_map, sum_ones, sum_where}

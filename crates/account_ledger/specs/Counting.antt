@@ -6,7 +6,8 @@ use Rattle.account_core.specs.Account.{Account, Message}
 use Rattle.account_core.specs.Messages.{sum_in}
 use Rattle.account_ledger.specs.declared.counting.MailboxSums.{MailboxSums}
 use Rattle.account_ledger.specs.Messages.{message_in}
-use Rattle.root_ledgers.specs.Scans.{cut, cut_totals, most, size_of_file, sizes_of, AreSmall}
+use Rattle.quota_units.specs.Sums.{cut, cut_totals, most, AreSmall}
+use Rattle.root_ledgers.specs.Scans.{size_of_file, sizes_of}
 
 -- one, where the file lacks the flag S
 abbrev pub unseen_of : FileRow → ℕ

@@ -18,7 +18,8 @@ use Rattle.account_ledger.specs.declared.counts.Counts.{Counts}
 use Rattle.root_ledgers.specs.declared.book.Book.{Book}
 use Rattle.root_ledgers.specs.declared.book.Standing.TheVariants.{Settled}
 use Rattle.account_ledger.specs.Messages.{StandFor, how_many}
-use Rattle.root_ledgers.specs.Scans.{AreSmall, scanned_octets, scanned_count}
+use Rattle.quota_units.specs.Sums.{AreSmall}
+use Rattle.root_ledgers.specs.Scans.{scanned_octets, scanned_count}
 use Rattle.root_ledgers.specs.Ledgers.{IsRight}
 use Rattle.root_ledgers.specs.Settling.{IsKept, book_at}
 use Rattle.account_ledger.specs.Opening.{opening_account}

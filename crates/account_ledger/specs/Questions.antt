@@ -1,7 +1,7 @@
 -- What the questions on mailboxes do to a state.
 use Rattle.std.specs.Prelude.{◌≡◌}
 use Rattle.keeper.specs.Calls.{Changes}
-use Rattle.keeper.specs.Causes.{next_count}
+use Rattle.quota_units.specs.Causes.{next_count}
 use Rattle.root_ledgers.specs.Settling.{OnFiles}
 use Rattle.account_ledger.specs.States.{State}
 

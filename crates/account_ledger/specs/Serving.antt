@@ -22,7 +22,7 @@ use Rattle.account_core.specs.History.{entry_of}
 use Rattle.keeper.specs.Files.{Files, Row, listed, removed, renamed, ledger_at, bytes_of}
 use Rattle.keeper.specs.declared.rows.FileRow.{FileRow}
 use Rattle.keeper.specs.Calls.{Changes, Writes}
-use Rattle.keeper.specs.Causes.{Rose, next_count}
+use Rattle.quota_units.specs.Causes.{Rose, next_count}
 use Rattle.account_core.specs.Account.{Account}
 use Rattle.root_ledgers.specs.declared.book.Standing.{Standing}
 use Rattle.root_ledgers.specs.declared.book.Standing.TheVariants.{Settled, Doubt}

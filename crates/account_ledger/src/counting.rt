@@ -1,15 +1,14 @@
 // What the files of a mailbox add up to.
 ghost use Rattle.std.specs.Prelude.{◌≡◌, ◌<◌, ◌^◌, if◌then◌else◌, map, IfOk};
 ghost use Rattle.quota_roots.specs.Governing.{governing};
-ghost use Rattle.root_ledgers.specs.Scans.{AreSmall};
+ghost use Rattle.quota_units.specs.Sums.{AreSmall};
 ghost use Rattle.account_ledger.specs.Counting.{AreSmallSums, sums_of, with_file};
 
 use account_core::RootSets;
 use keeper::FileRow;
 use message_names::{parse_name, size_of};
 use quota_roots::Roots;
-use quota_units::{Name, Totals};
-use root_ledgers::{MOST, cut_sum};
+use quota_units::{MOST, Name, Totals, cut_sum};
 use std::alloc::{AllocError, Global};
 
 /// What the messages of a mailbox add up to: all of them, those that have the flag T, and the number of those that lack the

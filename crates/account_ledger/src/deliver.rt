@@ -3,7 +3,7 @@ ghost use Rattle.std.specs.Prelude.{◌≡◌, ◌≢◌, ◌<◌, ◌≤◌, �
 ghost use Rattle.std.specs.List.{list_any};
 ghost use Rattle.std.specs.Option.{option_map};
 ghost use Rattle.keeper.specs.Calls.{Changes, Spends};
-ghost use Rattle.keeper.specs.Causes.{HasCause, Rose};
+ghost use Rattle.quota_units.specs.Causes.{HasCause, Rose};
 ghost use Rattle.message_names.specs.Written.{written_name};
 ghost use Rattle.message_names.specs.Messages.{message_of};
 ghost use Rattle.message_names.specs.Sizes.{cut};
@@ -16,7 +16,8 @@ ghost use Rattle.root_ledgers.specs.declared.book.Standing.TheVariants.{Settled}
 ghost use Rattle.account_ledger.specs.Order.{IsInOrder};
 ghost use Rattle.account_ledger.specs.Rows.{IsInside, IsVerdict};
 ghost use Rattle.account_ledger.specs.Serving.{Enters, SettlesSome, ServesRows, Spares, WritesBy, misses, OfAccount, Opened, Serves, StayCalm};
-ghost use Rattle.root_ledgers.specs.Settling.{OnFiles, comes_under, coming};
+ghost use Rattle.quota_roots.specs.Governing.{comes_under, coming};
+ghost use Rattle.root_ledgers.specs.Settling.{OnFiles};
 ghost use Rattle.account_ledger.specs.States.{standing_at};
 
 use crate::AccountState;

@@ -2,7 +2,7 @@
 ghost use Rattle.std.specs.Prelude.{◌+◌, ◌≡◌, ◌≢◌, ◌<◌, ◌++◌, ◌∷◌, [], ℕ, true, false, Some, None, Ok, length, IfOk, OnOk, OnErr, IsErr};
 ghost use Rattle.quota_roots.specs.RootLists.{place_of};
 ghost use Rattle.keeper.specs.Calls.{Changes, Spends};
-ghost use Rattle.keeper.specs.Causes.{HasCause};
+ghost use Rattle.quota_units.specs.Causes.{HasCause};
 ghost use Rattle.account_core.specs.History.{entry_of};
 ghost use Rattle.account_core.specs.Machine.{reply_of};
 ghost use Rattle.account_core.specs.Forms.{HasForm};
@@ -13,9 +13,9 @@ ghost use Rattle.account_ledger.specs.States.{standing_at};
 
 use crate::AccountState;
 use account_core::{Call, Entry, Reply, RootRow, StepError};
-use keeper::{Failed, Keeper};
+use keeper::Keeper;
 use maildirsize::{Text, print_folded};
-use quota_units::{Limits, Name};
+use quota_units::{Failed, Limits, Name};
 use root_ledgers::{Book, Standing};
 use std::alloc::Global;
 

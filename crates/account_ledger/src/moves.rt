@@ -3,7 +3,7 @@ ghost use Rattle.std.specs.Prelude.{◌+◌, ◌≡◌, ◌≢◌, ◌<◌, [], 
 ghost use Rattle.std.specs.List.{list_any};
 ghost use Rattle.quota_roots.specs.Governing.{gaining};
 ghost use Rattle.keeper.specs.Calls.{Changes, Spends};
-ghost use Rattle.keeper.specs.Causes.{Rose};
+ghost use Rattle.quota_units.specs.Causes.{Rose};
 ghost use Rattle.keeper.specs.Files.{listed};
 ghost use Rattle.account_core.specs.Machine.{over_of, reply_of};
 ghost use Rattle.account_core.specs.Forms.{HasForm};

@@ -6,7 +6,7 @@ ghost use Rattle.account_core.specs.Messages.{named_message};
 ghost use Rattle.account_ledger.specs.Messages.{message_in};
 ghost use Rattle.keeper.specs.Files.{listed, has_row};
 ghost use Rattle.keeper.specs.Calls.{Changes, Renames, Spends};
-ghost use Rattle.keeper.specs.Causes.{HasCause};
+ghost use Rattle.quota_units.specs.Causes.{HasCause};
 ghost use Rattle.account_ledger.specs.NamedFiles.{file_named};
 ghost use Rattle.account_ledger.specs.Order.{IsInOrder};
 ghost use Rattle.account_ledger.specs.Serving.{LedgersStay, OfAccount, Opened};

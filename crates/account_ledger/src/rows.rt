@@ -1,7 +1,7 @@
 // Rows and totals of roots, by what is kept of them.
 ghost use Rattle.std.specs.Prelude.{◌≡◌, ◌<◌, ◌≤◌, [], take, length, vec_capacity, All};
 ghost use Rattle.quota_units.specs.Limiting.{AreLimits};
-ghost use Rattle.root_ledgers.specs.Scans.{AreSmall};
+ghost use Rattle.quota_units.specs.Sums.{AreSmall};
 ghost use Rattle.account_ledger.specs.Rows.{kept_row, kept_rows, totals_of};
 
 use account_core::{RootRow, RootRows};

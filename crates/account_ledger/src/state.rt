@@ -6,7 +6,7 @@ ghost use Rattle.quota_roots.specs.Governing.{governs_at};
 ghost use Rattle.account_core.specs.Machine.{governing_rows, over_of, reply_of};
 ghost use Rattle.account_core.specs.Forms.{HasForm};
 ghost use Rattle.account_ledger.specs.Rows.{IsInside, IsVerdict};
-ghost use Rattle.keeper.specs.Causes.{HasCause, Rose};
+ghost use Rattle.quota_units.specs.Causes.{HasCause, Rose};
 ghost use Rattle.account_ledger.specs.Order.{IsInOrder};
 ghost use Rattle.account_ledger.specs.Serving.{Opened, OfAccount, SettlesSome, Enters, HasBytes, IsQuestion, IsServed, Leaves, ListsFor, Serves, ServesLedgers, ServesRows, Spares, StayCalm, is_place, misses, needs};
 ghost use Rattle.account_core.specs.Legality.{MayBeServed, fault_count};
@@ -15,7 +15,8 @@ ghost use Rattle.keeper.specs.Calls.{Changes, Spends};
 ghost use Rattle.quota_roots.specs.Setups.{IsSound};
 ghost use Rattle.account_opening.specs.Admitting.{IsRefused, MayOpen};
 ghost use Rattle.std.specs.Option.{option_map};
-ghost use Rattle.root_ledgers.specs.Settling.{OnFiles, comes_under, coming};
+ghost use Rattle.quota_roots.specs.Governing.{comes_under, coming};
+ghost use Rattle.root_ledgers.specs.Settling.{OnFiles};
 ghost use Rattle.account_ledger.specs.States.{IsOpened, standing_at, usage_at};
 ghost use Rattle.root_ledgers.specs.declared.book.Standing.TheVariants.{Settled};
 
@@ -28,8 +29,8 @@ use account_opening::{OpenError, admit_files};
 use admission::{Verdict, admit};
 use keeper::Keeper;
 use quota_roots::{MAX_ROOTS, Setup};
-use quota_units::{Limits, Totals};
-use root_ledgers::{Book, MOST, Standing, books_in_doubt, coming, settle, settle_coming};
+use quota_units::{Limits, MOST, Totals};
+use root_ledgers::{Book, Standing, books_in_doubt, settle, settle_coming};
 use std::alloc::{AllocError, Global};
 use std::marker::Model;
 use std::snapshot::Snapshot;
@@ -448,7 +449,7 @@ impl<K: Keeper> AccountState<K> {
         are_limits(&self.limits);
         // No limit is so large that more octets than these could be within it.
         let octets = octets.min(MOST);
-        let roots = coming(&self.setup.roots, from, to);
+        let roots = self.setup.roots.coming(from, to);
         admit(&self.limits, &totals[..self.books.len()], roots, octets)
     }
 

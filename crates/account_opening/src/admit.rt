@@ -1,6 +1,6 @@
 // Whether an account may be opened, and with which limits.
 ghost use Rattle.std.specs.Prelude.{◌+◌, ◌≡◌, ◌≤◌, length, IfOk};
-ghost use Rattle.keeper.specs.Causes.{HasCause};
+ghost use Rattle.quota_units.specs.Causes.{HasCause};
 ghost use Rattle.keeper.specs.Calls.{Changes, Spends};
 ghost use Rattle.account_opening.specs.Admitting.{Admits, IsJudged};
 

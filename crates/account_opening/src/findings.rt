@@ -1,6 +1,6 @@
 // What stands against opening an account, mailbox by mailbox: no listing is kept behind its mailbox.
 ghost use Rattle.std.specs.Prelude.{◌+◌, ◌≡◌, ◌++◌, codes, decimal, IfOk, IsErrOf};
-ghost use Rattle.keeper.specs.Causes.{HasCause};
+ghost use Rattle.quota_units.specs.Causes.{HasCause};
 ghost use Rattle.keeper.specs.Calls.{Changes, Spends};
 ghost use Rattle.account_opening.specs.Bases.{no_findings, with_mailbox};
 ghost use Rattle.account_opening.specs.Admitting.{Finds};

@@ -1,7 +1,7 @@
 // The limits that ledgers tell.
 ghost use Rattle.std.specs.Prelude.{◌+◌, ◌≡◌, ◌≤◌, length, IfOk, IsErrOf};
 ghost use Rattle.std.specs.Option.{option_map};
-ghost use Rattle.keeper.specs.Causes.{HasCause};
+ghost use Rattle.quota_units.specs.Causes.{HasCause};
 ghost use Rattle.keeper.specs.Calls.{Changes, Spends};
 ghost use Rattle.account_opening.specs.Limits.{ReadsLimits, limits_of_ledger};
 

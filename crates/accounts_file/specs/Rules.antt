@@ -3,6 +3,7 @@ use Rattle.std.specs.Prelude.{ℕ, Bool, false, not, ◌&&◌, ◌||◌, List, l
 use Rattle.std.specs.List.{list_all, starts_with}
 use Rattle.std.specs.Char.{is_ascii_alphanumeric}
 use Rattle.quota_roots.specs.MailboxNames.{canonical, is_mailbox_name}
+use Rattle.quota_units.specs.declared.limits.TheConstants.{MAX_LIMIT}
 use Rattle.quota_roots.specs.RootLists.{is_root_name}
 use Rattle.accounts_file.specs.declared.key.Key.{Key}
 use Rattle.accounts_file.specs.declared.key.Key.TheVariants.{Workers, AccountName, Password, Token, Journal, Recipients, Mailboxes, RootName, Prefix, Storage, Messages}
@@ -52,8 +53,8 @@ fits key text = nat_le (length text) 255 && is_right key (spelling key text)
 abbrev pub most : Key → ℕ
 most Workers = 16
 most Journal = 524288
-most Storage = 8796093022207
-most Messages = 8796093022207
+most Storage = MAX_LIMIT
+most Messages = MAX_LIMIT
 most _ = 65535
 
 abbrev pub is_number : Key → ℕ → Bool

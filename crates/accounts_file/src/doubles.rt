@@ -1,7 +1,7 @@
-ghost use Rattle.std.specs.Prelude.{◌≡◌, ◌<◌, ◌++◌, ◌⊎◌, ◌||◌, ℕ, List, bytes_eq, length, map, None, Some, All, IfOk, IfErr, IfSome, OnOk};
+ghost use Rattle.std.specs.Prelude.{◌≡◌, ◌<◌, ◌++◌, ◌⊎◌, ◌||◌, ℕ, List, bytes_eq, length, map, None, Some, All, IfOk, IfErr, OnOk};
 ghost use Rattle.std.specs.Option.{option_map};
 ghost use Rattle.std.specs.Str.{str_to_ascii_lowercase};
-ghost use Rattle.quota_roots.specs.RootLists.{first_double, has_name};
+ghost use Rattle.quota_roots.specs.RootLists.{first_double};
 ghost use Rattle.quota_roots.specs.Setups.{IsSound};
 ghost use Rattle.accounts_file.specs.Doubles.{all_recipients, doubles_refusal, has_same, is_noted, own_double, repeated, repeated_in_any_case, repeated_root};
 ghost use Rattle.accounts_file.specs.Hosts.{AreDifferent};
@@ -12,7 +12,7 @@ use crate::entry::AccountEntry;
 use crate::error::AccountsError;
 use crate::roots::roots_of;
 use crate::values::name_of;
-use quota_roots::{LimitsList, RootSpec, Setup};
+use quota_roots::{LimitsList, RootSpec, Setup, first_double};
 use quota_units::Name;
 use std::alloc::{AllocError, Global};
 use std::collections::BTreeMap;
@@ -104,26 +104,6 @@ fn check_recipients(alloc: Global, addresses: &[Name]) -> Result<(), AccountsErr
         None => Ok(()),
         Some(address) => Err(double_of(alloc, address)),
     }
-}
-
-fn has_root(specs: &[RootSpec], name: &[u8]) -> bool
-    ensures { result ≡ has_name specs.now name.now }
-{
-    specs.iter().any(|spec| spec.name.as_slice() == name)
-}
-
-/// The place of the first root whose name stood before.
-#[tactic(auto, using(quota_roots::proofs::ListLemmas::double_here, quota_roots::proofs::ListLemmas::double_nowhere))]
-fn first_double(specs: &[RootSpec]) -> Option<usize>
-    ensures value { result ≡ first_double specs.now }
-    ensures within { IfSome result (λ at. at < length specs.now) }
-{
-    for (at, spec) in specs.iter().enumerate() {
-        if has_root(&specs[..at], spec.name.as_slice()) {
-            return Some(at);
-        }
-    }
-    None
 }
 
 /// Refuses roots of which one has the name of one before it.

@@ -1,12 +1,10 @@
 ghost use Rattle.std.specs.Prelude.{◌≡◌, ◌<◌, ◌≤◌, length};
 ghost use Rattle.std.specs.List.{list_all};
-ghost use Rattle.quota_units.specs.Bytes.{is_printable};
-ghost use Rattle.quota_roots.specs.RootLists.{is_root_name};
 ghost use Rattle.accounts_file.specs.Rules.{fits, is_account_name, is_id_byte, is_prefix, is_right, is_secret, is_secret_byte, most, spelling};
 
 use crate::key::Key;
-use quota_roots::{canonical_spelling, is_mailbox_name};
-use quota_units::is_printable;
+use quota_roots::{canonical_spelling, is_mailbox_name, is_root_name};
+use quota_units::MAX_LIMIT;
 
 /// Whether the text may stand at the key. None has more than 255 bytes.
 pub(crate) fn fits(key: Key, text: &[u8]) -> bool
@@ -81,19 +79,6 @@ fn is_secret_byte(byte: u8) -> bool
     (0x21..=0x7E).contains(&byte)
 }
 
-/// Whether this is at most 64 bytes from 0x20 to 0x7E.
-fn is_root_name(name: &[u8]) -> bool
-    ensures { result ≡ is_root_name name.now }
-{
-    name.len() <= 64 && are_printable(name)
-}
-
-fn are_printable(bytes: &[u8]) -> bool
-    ensures { result ≡ list_all is_printable bytes.now }
-{
-    bytes.iter().all(|byte| is_printable(*byte))
-}
-
 /// Whether this is a mailbox name other than `Trash`.
 fn is_prefix(prefix: &[u8]) -> bool
     ensures { result ≡ is_prefix prefix.now }
@@ -109,7 +94,7 @@ pub(crate) fn most(key: Key) -> u64
     match key {
         Key::Workers => 16,
         Key::Journal => 524288,
-        Key::Storage | Key::Messages => 8796093022207,
+        Key::Storage | Key::Messages => MAX_LIMIT,
         _ => 65535,
     }
 }

@@ -1,7 +1,7 @@
 -- The calls of a keeper in memory that are to fail. A call is known by its kind and by its number among those of its kind, from 1 on.
 use Rattle.std.specs.Prelude.{ℕ, Bool, true, false, not, ◌&&◌, nat_eq, List, filter, if◌then◌else◌}
 use Rattle.std.specs.List.{list_any}
-use Rattle.keeper.specs.Causes.{next_count}
+use Rattle.quota_units.specs.Causes.{next_count}
 use Rattle.keeper.specs.declared.plan.CallCounts.{CallCounts}
 use Rattle.keeper.specs.declared.plan.KeepFail.{KeepFail}
 use Rattle.keeper.specs.declared.plan.KeepCall.{KeepCall}

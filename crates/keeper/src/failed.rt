@@ -1,14 +1,9 @@
 ghost use Rattle.std.specs.Prelude.{◌≡◌};
 ghost use Rattle.keeper.specs.declared.failed.KeepError.TheVariants.{NoMemory as no_memory, Failed as has_failed};
 
-use quota_units::NoMemory;
+use quota_units::{Failed, NoMemory};
 use std::alloc::{AllocError, AllocFailed};
 use thiserror::Error;
-
-/// A store has failed, which the count of faults of the object that was called has seen.
-#[derive(Clone, Copy, Debug, PartialEq, Eq, Error)]
-#[error("the store has failed")]
-pub struct Failed;
 
 /// Why a call of a store that takes memory gave no answer.
 #[derive(Clone, Copy, Debug, PartialEq, Eq, Error)]

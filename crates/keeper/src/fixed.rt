@@ -1,12 +1,12 @@
 ghost use Rattle.std.specs.Prelude.{◌≡◌, ◌≢◌, ◌<◌, ◌+◌, Some, length, IfOk, IsOk, IsErr, IsErrOf};
-ghost use Rattle.keeper.specs.Causes.{HasCause, next_count};
+ghost use Rattle.quota_units.specs.Causes.{HasCause, next_count};
 ghost use Rattle.keeper.specs.Files.{ledger_bytes, no_files};
 ghost use Rattle.keeper.specs.Calls.{Changes, Spends, Lists, Puts, Renames, Removes, Reads, Appends, Installs};
 ghost use Rattle.keeper.specs.Memory.{told_safely};
 
 use crate::files::MemFiles;
-use crate::{Failed, FileRow, KeepError, Keeper};
-use quota_units::NoMemory;
+use crate::{FileRow, KeepError, Keeper};
+use quota_units::{Failed, NoMemory};
 use std::alloc::Global;
 use std::marker::Model;
 

@@ -1,9 +1,10 @@
 ghost use Rattle.std.specs.Prelude.{◌≡◌, ◌<◌, ◌+◌, ℕ, length, false, true, Option, IfSome, IsErr, IsErrOf};
 ghost use Rattle.keeper.specs.Files.{has_row, ledger_bytes};
-ghost use Rattle.keeper.specs.Causes.{HasCause, next_count};
+ghost use Rattle.quota_units.specs.Causes.{HasCause, next_count};
 ghost use Rattle.keeper.specs.Calls.{Told, Changes, Spends, Lists, Puts, Renames, Removes, Reads, Appends, Installs};
 
-use crate::{Failed, FileRow, KeepError};
+use crate::{FileRow, KeepError};
+use quota_units::Failed;
 use std::alloc::Global;
 
 /// Keeps the message files and the ledgers of an account. A ledger has fewer than 5120 bytes.

@@ -15,7 +15,7 @@ mod rows;
 mod stores;
 
 pub use bytes::Bytes;
-pub use failed::{Failed, KeepError};
+pub use failed::KeepError;
 pub use fixed::FixedKeeper;
 pub use keeper::Keeper;
 pub use mem_stores::MemStores;

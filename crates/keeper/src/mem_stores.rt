@@ -1,6 +1,6 @@
 ghost use Rattle.std.specs.Prelude.{◌≡◌, ◌<◌, ◌↔◌, nat_lt, is_some, if◌then◌else◌, length, position, bytes_eq, Some, None, IfOk, IfErr, IfSome, IsErrOf};
 ghost use Rattle.std.specs.Option.{option_map};
-ghost use Rattle.keeper.specs.Causes.{HasCause, next_count};
+ghost use Rattle.quota_units.specs.Causes.{HasCause, next_count};
 ghost use Rattle.keeper.specs.Calls.{Changes};
 ghost use Rattle.keeper.specs.Accounts.{Opens, Closes, keeper_in, with_keeper};
 ghost use Rattle.keeper.specs.Memory.{told_of, forgiven};

@@ -1,5 +1,5 @@
 ghost use Rattle.std.specs.Prelude.{◌≡◌, ◌<◌, ◌≤◌, ◌+◌, ◌/◌, ◌↔◌, ◌++◌, Some, length, take, vec_len, IsErr, IsErrOf, IsTrue, IfOk, OnErr};
-ghost use Rattle.keeper.specs.Causes.{HasCause, next_count};
+ghost use Rattle.quota_units.specs.Causes.{HasCause, next_count};
 ghost use Rattle.keeper.specs.Files.{four_ledgers, ledger_at, ledger_bytes};
 ghost use Rattle.keeper.specs.Calls.{Changes, Spends, Lists, Puts, Renames, Removes, Reads, Appends, Installs};
 ghost use Rattle.keeper.specs.Plan.{fails_next, after_call, new_plan};
@@ -7,8 +7,8 @@ ghost use Rattle.keeper.specs.Memory.{told_of};
 
 use crate::files::MemFiles;
 use crate::plan::Plan;
-use crate::{Failed, FileRow, KeepCall, KeepError, KeepFail, Keeper, StoreRow};
-use quota_units::NoMemory;
+use crate::{FileRow, KeepCall, KeepError, KeepFail, Keeper, StoreRow};
+use quota_units::{Failed, NoMemory};
 use std::alloc::Global;
 use std::marker::Model;
 

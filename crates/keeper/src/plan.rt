@@ -1,9 +1,9 @@
 ghost use Rattle.std.specs.Prelude.{◌≡◌, ◌<◌, ◌≤◌, ◌+◌, true, not, length, filter, IsErr, IsTrue, ◌↔◌};
 ghost use Rattle.std.specs.List.{list_any};
-ghost use Rattle.keeper.specs.Causes.{HasCause};
+ghost use Rattle.quota_units.specs.Causes.{HasCause};
 ghost use Rattle.keeper.specs.Plan.{count_of, counted, names, is_append, fails_next, after_call, new_plan, faults_of, other_faults};
 
-use crate::Failed;
+use quota_units::Failed;
 use std::marker::Model;
 
 /// The calls of a keeper.

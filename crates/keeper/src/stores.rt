@@ -1,5 +1,5 @@
 ghost use Rattle.std.specs.Prelude.{◌≡◌, ◌<◌, ℕ, List, Option, IfOk, IsErrOf};
-ghost use Rattle.keeper.specs.Causes.{HasCause};
+ghost use Rattle.quota_units.specs.Causes.{HasCause};
 ghost use Rattle.keeper.specs.Calls.{Changes};
 ghost use Rattle.keeper.specs.Accounts.{Opens, Closes};
 

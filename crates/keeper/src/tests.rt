@@ -1,7 +1,7 @@
 ghost use Rattle.std.specs.Prelude.{◌<◌};
 
 use super::*;
-use quota_units::Name;
+use quota_units::{Failed, Name};
 use std::alloc::Global;
 use std::process::Abort;
 use std::test::Fail;

@@ -1,12 +1,13 @@
 ghost use Rattle.std.specs.Prelude.{◌≡◌, ◌≤◌, ◌<◌, ◌&&◌, None, false, Option, length, IsErr, IsErrOf, IfOk, All};
 ghost use Rattle.std.specs.String.{string_bytes};
-ghost use Rattle.keeper.specs.Causes.{HasCause, next_count};
+ghost use Rattle.quota_units.specs.Causes.{HasCause, next_count};
 ghost use Rattle.keeper_fs.specs.Names.{is_file_name};
 ghost use Rattle.keeper_fs.specs.Rows.{IsMessageRow};
 ghost use Rattle.keeper_fs.specs.Real.{faults_of, append_faults_of, folder_of, lists_of};
 
 use crate::{ledgers, listing, messages};
-use keeper::{Failed, FileRow, KeepError, Keeper};
+use keeper::{FileRow, KeepError, Keeper};
+use quota_units::Failed;
 use std::alloc::Global;
 use std::fs::Files;
 

@@ -1,13 +1,14 @@
 ghost use Rattle.std.specs.Prelude.{◌≡◌, ◌<◌, None, true, false, IfOk, IfErr, IsErrOf};
 ghost use Rattle.std.specs.String.{string_bytes};
-ghost use Rattle.keeper.specs.Causes.{HasCause};
+ghost use Rattle.quota_units.specs.Causes.{HasCause};
 ghost use Rattle.keeper_fs.specs.Paths.{has_folder, is_path, path_in};
 ghost use Rattle.keeper_fs.specs.Real.{faults_of, append_faults_of, folder_of, lists_of, store_faults_of, store_folder_of};
 
 use crate::FsKeeper;
 use crate::folders::path_in;
 use crate::names::file_name;
-use keeper::{Failed, KeepError, Stores};
+use keeper::{KeepError, Stores};
+use quota_units::Failed;
 use std::alloc::Global;
 use std::fs::Files;
 

@@ -2,8 +2,8 @@ ghost use Rattle.std.specs.Prelude.{◌≡◌, IfOk, IfErr, true, false};
 ghost use Rattle.std.specs.List.{list_any};
 ghost use Rattle.keeper_fs.specs.Names.{is_separator, is_plain, is_file_name};
 
-use keeper::Failed;
 use memchr::memchr2;
+use quota_units::Failed;
 
 /// The text of a name of one file or folder.
 ///

@@ -1,7 +1,8 @@
 ghost use Rattle.std.specs.Prelude.{◌<◌};
 
 use super::*;
-use keeper::{Failed, FileRow, KeepError, Keeper, Stores};
+use keeper::{FileRow, KeepError, Keeper, Stores};
+use quota_units::Failed;
 use std::alloc::{Allocator, Global};
 use std::fs::{File, Files, Metadata, OpenOptions};
 use std::io::ErrorKind;

@@ -7,9 +7,7 @@ use Rattle.std.proofs.lemmas.Bool.Decides.{nat_tests}
 use Rattle.std.proofs.lemmas.Int.Digits.{digits_value_more}
 use Rattle.std.proofs.lemmas.List.Sums.{prefix_len-drop_yes}
 use Rattle.std.proofs.lemmas.Str.{digit_value_digit}
-
-pub digit_range : (c : ℕ) → is_ascii_digit c ≡ true → (48 ≤ c) × (c ≤ 57)
-digit_range c h = grind (arith, nat_tests)
+use Rattle.quota_units.proofs.DigitLemmas.{digit_range}
 
 cut_step : (v d c : ℕ) → d ≤ 9 → min (min v c * 10 + d) c ≡ min (v * 10 + d) c
 cut_step v d c h = omega arith

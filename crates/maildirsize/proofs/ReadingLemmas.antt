@@ -17,8 +17,8 @@ use Rattle.maildirsize.specs.Definition.{is_member, member_in, members_in, limit
 use Rattle.maildirsize.specs.SumLine.{pair_in, is_sum_line, pairs_in}
 use Rattle.maildirsize.specs.Sums.{Pair}
 use Rattle.maildirsize.specs.Reading.{Reads, summary, SumsUp, line_fault, rest_fault, fault_in, fault_of}
+use Rattle.quota_units.proofs.CutLemmas.{after-cons}
 use Rattle.maildirsize.proofs.FrontLemmas.{skip_yes, skip_no}
-use Rattle.maildirsize.proofs.SplitLemmas.{after-cons}
 use Rattle.maildirsize.proofs.SumsLemmas.{parts_first, parts_ended, parts_torn, no_bad_line}
 
 -- a definition whose members are all right has no wrong one
@@ -73,9 +73,9 @@ after_line (x ∷ bytes) rest h = ⊎_elim
     (λ (k : is_line_feed x ≡ true).
     let e = sym (skip_no is_in_line x bytes (ap not k)) ∙ h in
     let tail : bytes ≡ rest = cc in
-    after-cons x bytes ∙ cond-true (is_line_feed x) bytes (after_first is_line_feed bytes) k ∙ tail)
+    after-cons is_line_feed x bytes ∙ cond-true (is_line_feed x) bytes (after_first is_line_feed bytes) k ∙ tail)
     (λ (k : is_line_feed x ≡ false).
-    after-cons x bytes ∙ cond-false (is_line_feed x) bytes (after_first is_line_feed bytes) k
+    after-cons is_line_feed x bytes ∙ cond-false (is_line_feed x) bytes (after_first is_line_feed bytes) k
     ∙ after_line bytes rest (sym (skip_yes is_in_line x bytes (ap not k)) ∙ h))
     (cases_Bool (is_line_feed x))
 

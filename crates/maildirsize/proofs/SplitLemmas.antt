@@ -5,6 +5,7 @@ use Rattle.std.specs.List.{prefix_len, take_while, slice_split, onto_first, list
 use Rattle.std.proofs.lemmas.Bool.{cases_Bool, cond-true, cond-false, or_left, or_right, or_from, not_from_true, not_from_false}
 use Rattle.maildirsize.specs.Fronts.{skip_while}
 use Rattle.maildirsize.specs.Lines.{is_line_feed, is_in_line, first_line}
+use Rattle.quota_units.proofs.CutLemmas.{after-cons}
 use Rattle.maildirsize.proofs.FrontLemmas.{take_yes, take_no, skip_yes, skip_no}
 
 pub line_more : (x : ℕ) (xs : List ℕ) → is_line_feed x ≡ false → first_line (x ∷ xs) ≡ x ∷ first_line xs
@@ -71,14 +72,6 @@ module _ (sep : ℕ → Bool) (apart : (x : ℕ) → is_line_feed x ≡ true →
       (cases_Bool (sep x)))
       (cases_Bool (is_line_feed x))
 
--- what stands behind the first line feed, byte by byte
-after_either : (b : Bool) (n x : ℕ) (xs : List ℕ) → drop (cond (not b) (1 + n) 0 + 1) (x ∷ xs) ≡ cond b xs (drop (n + 1) xs)
-after_either true n x xs = refl
-after_either false n x xs = rw (one-add, add-one, add-one)
-
-pub after-cons : (x : ℕ) (xs : List ℕ) → after_first is_line_feed (x ∷ xs) ≡ cond (is_line_feed x) xs (after_first is_line_feed xs)
-after-cons x xs = after_either (is_line_feed x) (prefix_len is_in_line xs) x xs
-
 -- bytes that are no line feeds have no part in whether a line feed comes, and in what stands behind it
 module _ (p : ℕ → Bool) (within : (x : ℕ) → p x ≡ true → is_line_feed x ≡ false) where
   pub list_any-skip_while : (xs : List ℕ) → list_any is_line_feed (skip_while p xs) ≡ list_any is_line_feed xs
@@ -93,6 +86,6 @@ module _ (p : ℕ → Bool) (within : (x : ℕ) → p x ≡ true → is_line_fee
   after_first-skip_while [] = refl
   after_first-skip_while (x ∷ xs) = ⊎_elim
       (λ (h : p x ≡ true). ap (after_first is_line_feed) (skip_yes p x xs h) ∙ after_first-skip_while xs
-      ∙ sym (after-cons x xs ∙ cond-false (is_line_feed x) xs (after_first is_line_feed xs) (within x h)))
+      ∙ sym (after-cons is_line_feed x xs ∙ cond-false (is_line_feed x) xs (after_first is_line_feed xs) (within x h)))
       (λ (h : p x ≡ false). ap (after_first is_line_feed) (skip_no p x xs h))
       (cases_Bool (p x))

@@ -18,7 +18,8 @@ use Rattle.maildirsize.specs.SumLine.{pair_in, is_sum_line, pairs_in, sum_line_a
 use Rattle.maildirsize.specs.Reading.{line_fault, rest_fault, summary}
 use Rattle.maildirsize.specs.declared.ledger_text.LedgerText.{LedgerText}
 use Rattle.quota_units.specs.Limiting.{LimitNumbers}
-use Rattle.maildirsize.proofs.SplitLemmas.{line_more, line_over, split_yes, split_no, after-cons}
+use Rattle.quota_units.proofs.CutLemmas.{after-cons}
+use Rattle.maildirsize.proofs.SplitLemmas.{line_more, line_over, split_yes, split_no}
 
 -- a text is its first line, and what stands behind the line feed where there is one
 or_true : (b c : Bool) → b ≡ true → (b || c) ≡ true
@@ -33,13 +34,13 @@ parts_first [] = refl
 parts_first (x ∷ xs) = ⊎_elim
     (λ (h : is_line_feed x ≡ true).
     let any = or_true (is_line_feed x) (list_any is_line_feed xs) h in
-    let rest = after-cons x xs ∙ cond-true (is_line_feed x) xs (after_first is_line_feed xs) h in
+    let rest = after-cons is_line_feed x xs ∙ cond-true (is_line_feed x) xs (after_first is_line_feed xs) h in
     split_yes is_line_feed x xs h ∙ sym
     (ap (λ l. l ∷ cond (list_any is_line_feed (x ∷ xs)) (parts_of (after_first is_line_feed (x ∷ xs))) []) (line_over x xs h)
     ∙ ap (λ b. [] ∷ cond b (parts_of (after_first is_line_feed (x ∷ xs))) []) any ∙ ap (λ r. [] ∷ parts_of r) rest))
     (λ (h : is_line_feed x ≡ false).
     let any = or_false (is_line_feed x) (list_any is_line_feed xs) h in
-    let rest = after-cons x xs ∙ cond-false (is_line_feed x) xs (after_first is_line_feed xs) h in
+    let rest = after-cons is_line_feed x xs ∙ cond-false (is_line_feed x) xs (after_first is_line_feed xs) h in
     split_no is_line_feed x xs h ∙ ap (onto_first x) (parts_first xs)
     ∙ sym (ap (λ l. l ∷ cond (list_any is_line_feed (x ∷ xs)) (parts_of (after_first is_line_feed (x ∷ xs))) []) (line_more x xs h)
     ∙ ap (λ b. (x ∷ first_line xs) ∷ cond b (parts_of (after_first is_line_feed (x ∷ xs))) []) any
@@ -66,11 +67,11 @@ line_length [] h = absurd (false≢true h)
 line_length (x ∷ xs) h = ⊎_elim
     (λ (k : is_line_feed x ≡ true).
     let line = ap length (line_over x xs k) in
-    let rest = ap length (after-cons x xs ∙ cond-true (is_line_feed x) xs (after_first is_line_feed xs) k) in
+    let rest = ap length (after-cons is_line_feed x xs ∙ cond-true (is_line_feed x) xs (after_first is_line_feed xs) k) in
     omega (arith, line, rest))
     (λ (k : is_line_feed x ≡ false).
     let line = ap length (line_more x xs k) in
-    let rest = ap length (after-cons x xs ∙ cond-false (is_line_feed x) xs (after_first is_line_feed xs) k) in
+    let rest = ap length (after-cons is_line_feed x xs ∙ cond-false (is_line_feed x) xs (after_first is_line_feed xs) k) in
     let more = line_length xs (sym (or_false (is_line_feed x) (list_any is_line_feed xs) k) ∙ h) in
     omega (arith, line, rest, more))
     (cases_Bool (is_line_feed x))

@@ -12,16 +12,8 @@ use Rattle.std.proofs.lemmas.List.{append-nil}
 use Rattle.std.proofs.lemmas.Str.{digit_value_digit}
 use Rattle.maildirsize.specs.Fronts.{skip_while, begins_with}
 use Rattle.maildirsize.specs.SumLine.{is_in_word, magnitude_in}
-use Rattle.maildirsize.proofs.DigitSteps.{digit_range}
+use Rattle.quota_units.proofs.DigitLemmas.{all_digits}
 use Rattle.maildirsize.proofs.FrontLemmas.{front_wider, skip_wider, front_none, skip_none, list_all-take_while, front_mixed, begins_with-skip_while, take_while-append-skip_while}
-
-digit_small : (c : ℕ) → is_ascii_digit c ≡ true → digit_value c < 10
-digit_small c h = let r = digit_range c h in let v = digit_value_digit c r in omega arith
-
-pub all_digits : (ds : List ℕ) → list_all is_ascii_digit ds ≡ true → AllDigits 10 ds
-all_digits [] h = tt
-all_digits (c ∷ cs) h = let p = and_parts (is_ascii_digit c) (list_all is_ascii_digit cs) h in
-    (digit_small c p.0, all_digits cs p.1)
 
 -- 18 digits write a number below 10 ^ 18
 pub digits_bound : (ds : List ℕ) → list_all is_ascii_digit ds ≡ true → length ds ≤ 18 → digits_value 10 ds < 1000000000000000000

@@ -23,7 +23,7 @@ use Rattle.maildirsize.specs.Reading.{Reads}
 use Rattle.maildirsize.specs.Laws.{WrittenReadsBack}
 use Rattle.maildirsize.proofs.FrontLemmas.{take_yes, take_no, skip_yes, skip_no}
 use Rattle.maildirsize.proofs.SplitLemmas.{split_yes, split_no}
-use Rattle.maildirsize.proofs.DigitSteps.{digit_range}
+use Rattle.quota_units.proofs.DigitLemmas.{digit_range, digits_all}
 use Rattle.maildirsize.proofs.WordLemmas.{magnitude_some}
 use Rattle.maildirsize.proofs.SumsLemmas.{all_but_last_append, last_of_append}
 use Rattle.maildirsize.proofs.ReadingLemmas.{one_reading_lem}
@@ -64,16 +64,9 @@ split_last sep (x ∷ xs) h =
     split_no sep x xs (not-true (sep x) t.0) ∙ ap (onto_first x) (split_last sep xs t.1)
 
 -- the digits of a written number
-is_digit_from : (c : ℕ) → digit_value c < 10 → is_ascii_digit c ≡ true
-is_digit_from c h = let r = digit_from_value c h in grind (arith, nat_tests)
-
-digits_from : (ds : List ℕ) → AllDigits 10 ds → list_all is_ascii_digit ds ≡ true
-digits_from [] h = refl
-digits_from (c ∷ cs) h = all_cons is_ascii_digit c cs (is_digit_from c h.0) (digits_from cs h.1)
-
 module _ (n : ℕ) (small : n < 2 ^ 64) where
   decimal_digits : list_all is_ascii_digit (decimal n) ≡ true
-  decimal_digits = digits_from (decimal n) (decimal_is_IsNumeral n small).0.1
+  decimal_digits = digits_all (decimal n) (decimal_is_IsNumeral n small).0.1
 
   decimal_some : 0 < length (decimal n)
   decimal_some = (decimal_is_IsNumeral n small).0.0

@@ -5,6 +5,7 @@ use Rattle.std.specs.Prelude.{ℕ, ◌+◌, min, Bool, not, ◌&&◌, ◌||◌, 
 use Rattle.std.specs.List.{slice_split, list_all, find, filter_map, prefix_len, sum_by, take_while}
 use Rattle.std.specs.Char.{is_ascii_digit, is_ascii_alphabetic}
 use Rattle.std.specs.Str.Parse.{digits_value}
+use Rattle.quota_units.specs.declared.limits.TheConstants.{LARGEST_LIMIT}
 use Rattle.quota_units.specs.Limiting.{LimitNumbers}
 use Rattle.maildirsize.specs.declared.definition.Member.{Member}
 use Rattle.maildirsize.specs.Fronts.{skip_while}
@@ -16,7 +17,7 @@ is_comma b = b == 44
 
 -- the limit that a number sets: it is cut at 9007199254740991, and 0 sets none
 abbrev pub limit_of : ℕ → Option ℕ
-limit_of n = if n == 0 then None else Some (min n 9007199254740991)
+limit_of n = if n == 0 then None else Some (min n LARGEST_LIMIT)
 
 -- digits, and one letter behind them
 abbrev pub member_of : List ℕ → List ℕ → Option Member

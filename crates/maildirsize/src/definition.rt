@@ -6,10 +6,7 @@ ghost use Rattle.maildirsize.specs.Lines.{is_in_line, first_line};
 ghost use Rattle.maildirsize.specs.Definition.{limit_of, is_in_member, member_in, member_texts_at, limits_in, wrong_text_in, definition_in, wrong_member_in, definition_of};
 
 use crate::fronts::{behind_byte, leading_digits};
-use quota_units::Limits;
-
-/// The largest limit, 2^53 - 1. A larger number is cut at it.
-const LARGEST: u64 = 9007199254740991;
+use quota_units::{LARGEST_LIMIT, Limits};
 
 /// A member of a definition: its letter, and the limit that its number sets.
 #[derive(Clone, Copy)]
@@ -136,7 +133,7 @@ fn limit_of(number: u64) -> Option<u64>
     if number == 0 {
         None
     } else {
-        Some(number.min(LARGEST))
+        Some(number.min(LARGEST_LIMIT))
     }
 }
 

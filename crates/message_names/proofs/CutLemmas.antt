@@ -6,6 +6,7 @@ use Rattle.std.proofs.lemmas.Bool.{cond-true, cond-false, false_from_ne_true, no
 use Rattle.std.proofs.lemmas.List.{take_all, drop_all, take_rest}
 use Rattle.std.proofs.lemmas.List.Sums.{position_or_len_is, take_while-cons}
 use Rattle.memchr.specs.Find.{IsFirstByte}
+use Rattle.quota_units.proofs.CutLemmas.{after-cons}
 
 module _ (p : ℕ → Bool) where
   place_some : (xs : List ℕ) (k : ℕ) → IsFirstByte p xs (Some k) → position_or_len p xs ≡ k
@@ -29,18 +30,11 @@ module _ (p : ℕ → Bool) where
   after_none xs h = sym (drop_all (position_or_len p xs + 1) xs (omega (arith, place_none xs h)))
 
   -- byte by byte
-  after_either : (b : Bool) (n x : ℕ) (xs : List ℕ) → drop (cond (not b) (1 + n) 0 + 1) (x ∷ xs) ≡ cond b xs (drop (n + 1) xs)
-  after_either true n x xs = refl
-  after_either false n x xs = rw (one-add, add-one, add-one)
-
-  after-cons : (x : ℕ) (xs : List ℕ) → after_first p (x ∷ xs) ≡ cond (p x) xs (after_first p xs)
-  after-cons x xs = after_either (p x) (position_or_len p xs) x xs
-
   pub after_yes : (x : ℕ) (xs : List ℕ) → p x ≡ true → after_first p (x ∷ xs) ≡ xs
-  after_yes x xs h = after-cons x xs ∙ cond-true (p x) xs (after_first p xs) h
+  after_yes x xs h = after-cons p x xs ∙ cond-true (p x) xs (after_first p xs) h
 
   pub after_no : (x : ℕ) (xs : List ℕ) → p x ≡ false → after_first p (x ∷ xs) ≡ after_first p xs
-  after_no x xs h = after-cons x xs ∙ cond-false (p x) xs (after_first p xs) h
+  after_no x xs h = after-cons p x xs ∙ cond-false (p x) xs (after_first p xs) h
 
   pub before_yes : (x : ℕ) (xs : List ℕ) → p x ≡ true → before_first p (x ∷ xs) ≡ []
   before_yes x xs h = take_while-cons (λ y. not (p y)) x xs

@@ -34,3 +34,13 @@ gains_at roots root from to = governs_at roots root to && not (governs_at roots 
 -- the numbers of those roots, in order
 abbrev pub gaining : List RootSpec → List ℕ → List ℕ → List ℕ
 gaining roots from to = filter (λ root. gains_at roots root from to) (range_with_len 0 (length roots))
+
+-- the root governs the mailbox that a message comes to, and not the one that it comes from, if there is one
+abbrev pub comes_under : List RootSpec → Option (List ℕ) → List ℕ → ℕ → Bool
+comes_under roots None to root = governs_at roots root to
+comes_under roots (Some from) to root = gains_at roots root from to
+
+-- the numbers of those roots, in order
+abbrev pub coming : List RootSpec → Option (List ℕ) → List ℕ → List ℕ
+coming roots None to = governing roots to
+coming roots (Some from) to = gaining roots from to

@@ -1,6 +1,7 @@
 ghost use Rattle.std.specs.Prelude.{◌≡◌, ◌≤◌, ◌<◌, ◌↔◌, ℕ, length, position, All, Contains, IfSome, IsTrue, IsFalse, IfOk, IsErrOf, vec_len, codes, bytes_eq};
 ghost use Rattle.std.specs.List.{list_all};
-ghost use Rattle.quota_roots.specs.Governing.{governs_at, governing, gaining};
+ghost use Rattle.std.specs.Option.{option_map};
+ghost use Rattle.quota_roots.specs.Governing.{governs_at, governing, gaining, coming, comes_under};
 ghost use Rattle.quota_units.specs.Bytes.{is_printable};
 ghost use Rattle.quota_roots.specs.RootLists.{first_bad_name, first_double, has_name, is_prefix_at, is_root_at, is_root_name, name_at, place_of, AreRoots, IsBadName, IsDouble, IsTooMany};
 
@@ -45,7 +46,8 @@ fn is_root_at(root: usize, spec: &RootSpec) -> bool
     is_root_name(spec.name.as_slice()) && is_prefix_at(root, &spec.prefix)
 }
 
-fn is_root_name(name: &[u8]) -> bool
+/// Whether this may be the name of a root: at most 64 bytes from 0x20 to 0x7E.
+pub fn is_root_name(name: &[u8]) -> bool
     ensures { result ≡ is_root_name name.now }
 {
     name.len() <= 64 && is_printed(name)
@@ -81,8 +83,9 @@ fn place_of(specs: &[RootSpec], name: &[u8]) -> Option<usize>
     specs.iter().position(|spec| spec.name.as_slice() == name)
 }
 
+/// The place of the first root that has the name of one before it. Places count from 0.
 #[tactic(auto, using(crate::proofs::ListLemmas::double_here, crate::proofs::ListLemmas::double_nowhere))]
-fn first_double(specs: &[RootSpec]) -> Option<usize>
+pub fn first_double(specs: &[RootSpec]) -> Option<usize>
     ensures value { result ≡ first_double specs.now }
     ensures within { IfSome result (λ at. at < length specs.now) }
 {
@@ -242,5 +245,27 @@ impl Roots {
         ensures below { All (λ root. root < length self.now) result }
     {
         gained(&self.specs, from, to)
+    }
+    /// Whether a message that goes from one mailbox to another comes under the root of this number; one that is delivered
+    /// comes from none.
+    pub fn comes_under(&self, root: u32, from: Option<&[u8]>, to: &[u8]) -> bool
+        requires { root < length self.now }
+        ensures { result ≡ comes_under self.now (option_map (λ m. m.now) from.entry) to.now root }
+    {
+        match from {
+            None => self.governs(root, to),
+            Some(from) => self.governs(root, to) && !self.governs(root, from),
+        }
+    }
+
+    /// The roots that a message comes under which goes from one mailbox to another; one that is delivered comes from none.
+    pub fn coming(&self, from: Option<&[u8]>, to: &[u8]) -> RootSet
+        ensures value { result ≡ coming self.now (option_map (λ m. m.now) from.entry) to.now }
+        ensures below { All (λ root. root < length self.now) result }
+    {
+        match from {
+            None => self.roots_of(to),
+            Some(from) => self.gained(from, to),
+        }
     }
 }

@@ -7,22 +7,20 @@ use Rattle.quota_units.specs.Digits.{number_of}
 use Rattle.std.specs.List.{list_all}
 use Rattle.std.specs.Char.{is_ascii_digit, digit_value}
 use Rattle.std.specs.Str.Parse.{digits_value, AllDigits}
+use Rattle.std.proofs.lemmas.Bool.{and_parts}
 use Rattle.std.proofs.lemmas.Bool.Decides.{nat_tests, leb_tells}
 use Rattle.std.proofs.lemmas.Int.Digits.{digits_value-lt, digits_value_more}
 use Rattle.std.proofs.lemmas.List.Folds.{list_all_more}
 use Rattle.std.proofs.lemmas.Str.{digit_value_digit}
 use Rattle.std.proofs.Math.Nat.{pow-le-pow_right}
 
-in_range : (c : ℕ) → is_ascii_digit c ≡ true → (48 ≤ c) × (c ≤ 57)
-in_range c h = grind (arith, nat_tests)
-
-and_parts : (a b : Bool) → (a && b) ≡ true → (a ≡ true) × (b ≡ true)
-and_parts a b h = grind (arith, nat_tests)
+pub digit_range : (c : ℕ) → is_ascii_digit c ≡ true → (48 ≤ c) × (c ≤ 57)
+digit_range c h = grind (arith, nat_tests)
 
 small : (c : ℕ) → is_ascii_digit c ≡ true → digit_value c < 10
-small c h = let r = in_range c h in let v = digit_value_digit c r in omega arith
+small c h = let r = digit_range c h in let v = digit_value_digit c r in omega arith
 
-all_digits : (ds : List ℕ) → list_all is_ascii_digit ds ≡ true → AllDigits 10 ds
+pub all_digits : (ds : List ℕ) → list_all is_ascii_digit ds ≡ true → AllDigits 10 ds
 all_digits [] h = tt
 all_digits (c ∷ cs) h = let p = and_parts (is_ascii_digit c) (list_all is_ascii_digit cs) h in (small c p.0, all_digits cs p.1)
 
@@ -31,7 +29,7 @@ pub step : (bs : List ℕ) (i : ℕ) → i < length bs → length bs ≤ 19 → 
     × (digits_value 10 (take (i + 1) bs) ≡ digits_value 10 (take i bs) * 10 + (get_or bs i 0 - 48))
     × (list_all is_ascii_digit (take (i + 1) bs) ≡ true) × (48 ≤ get_or bs i 0) × (get_or bs i 0 ≤ 57)
 step bs i lt short all digit =
-    let r = in_range (get_or bs i 0) digit in
+    let r = digit_range (get_or bs i 0) digit in
     let v = digit_value_digit (get_or bs i 0) r in
     let below = digits_value-lt 10 (take i bs) (all_digits (take i bs) all) in
     let len = length-take i bs in
@@ -45,7 +43,7 @@ step bs i lt short all digit =
 own : IsNumeralModel (AllDigits 10) (digits_value 10)
 own = numerals_by_value (AllDigits 10) tells_digits
 
-digit_of : (c : ℕ) → digit_value c < 10 → is_ascii_digit c ≡ true
+pub digit_of : (c : ℕ) → digit_value c < 10 → is_ascii_digit c ≡ true
 digit_of c lt = let r = digit_from_value c lt in let low : 48 ≤ c = r.0 in let high : c ≤ 57 = r.1 in grind (arith, nat_tests)
 
 pub digits_all : (ds : List ℕ) → AllDigits 10 ds → list_all is_ascii_digit ds ≡ true

@@ -1,5 +1,6 @@
--- Limits of a quota root. 9007199254740991 is 2 ^ 53 - 1, the largest whole number of JMAP (RFC 8620, section 1.3).
+-- Limits of a quota root.
 use Rattle.std.specs.Prelude.{◌≤◌, ℕ, Option, IfSome}
+use Rattle.quota_units.specs.declared.limits.TheConstants.{LARGEST_LIMIT}
 
 pub record LimitNumbers : Type 0 where
   pub octets : Option ℕ
@@ -8,7 +9,7 @@ pub record LimitNumbers : Type 0 where
 -- a number that can limit
 pub record IsLimit (n : ℕ) : Type 0 where
   pub some : 1 ≤ n
-  pub bounded : n ≤ 9007199254740991
+  pub bounded : n ≤ LARGEST_LIMIT
 
 -- each number that is set can limit
 pub record AreLimits (limits : LimitNumbers) : Type 0 where

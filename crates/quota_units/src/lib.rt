@@ -3,6 +3,7 @@
 
 mod bytes;
 mod digits;
+mod failed;
 mod flags;
 mod limits;
 mod memory;
@@ -13,12 +14,13 @@ mod units;
 
 pub use bytes::is_printable;
 pub use digits::{number_in, numeral_in};
+pub use failed::Failed;
 pub use flags::{Flags, is_flag_letter};
-pub use limits::{LimitError, Limits, limit_of_count, limit_of_units};
+pub use limits::{LARGEST_LIMIT, LimitError, Limits, MAX_LIMIT, limit_of_count, limit_of_units};
 pub use memory::NoMemory;
 pub use name::{Name, NameError};
 pub use resource::{Resource, resource_named};
-pub use totals::Totals;
+pub use totals::{MOST, Totals, cut_sum};
 pub use units::units_up;
 
 #[cfg(test)]

@@ -7,6 +7,9 @@ use thiserror::Error;
 /// The most storage units or messages that a limit can be set to.
 pub const MAX_LIMIT: u64 = 8796093022207;
 
+/// The most octets or messages that a limit has: 2^53 - 1, the largest whole number of JMAP (RFC 8620, section 1.3).
+pub const LARGEST_LIMIT: u64 = 9007199254740991;
+
 /// Why a number can't be set as a limit.
 #[derive(Clone, Copy, Debug, PartialEq, Eq, Error)]
 pub enum LimitError {
@@ -72,7 +75,7 @@ fn in_range(limit: Option<u64>) -> bool
 {
     match limit {
         None => true,
-        Some(n) => 1 <= n && n <= 9007199254740991,
+        Some(n) => 1 <= n && n <= LARGEST_LIMIT,
     }
 }
 

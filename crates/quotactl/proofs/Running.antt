@@ -8,10 +8,11 @@ use Rattle.wire_io.specs.declared.ends.SessionEnd.{SessionEnd}
 use Rattle.wire_io.specs.declared.ends.SessionEnd.TheVariants.{Closed, Stopped, ReadFault, WriteFault, NoMemory}
 use Rattle.wire_io.specs.Feeding.{Hands}
 use Rattle.wire_io.specs.Sending.{AppendsPart}
-use Rattle.wire_io.specs.Session.{Exchange, bytes_of, log_of, text_of, IsExchange, Exchanges, Ends, Finishes, InputEnds}
+use Rattle.wire_io.specs.Session.{Exchange, bytes_of, log_of, text_of, IsExchange, Exchanges, Ends, Finishes, EndsAsDecided}
 use Rattle.wire_io.proofs.FeedLemmas.{Hands-nil, Hands-trans}
 use Rattle.wire_io.proofs.Cuts.{some_byte}
 use Rattle.wire_io.proofs.Deciding.{end_decided}
+use Rattle.wire_io.proofs.Endings.{has_end}
 use Rattle.account_core.specs.declared.calls.Call.{Call}
 use Rattle.account_core.specs.History.{Answer, Book}
 use Rattle.quotactl.specs.Imap.{Request, imap}
@@ -19,6 +20,7 @@ use Rattle.quotactl.specs.Texts.{greeting}
 use Rattle.quotactl.specs.Serving.{input_limit, Owns, TakesRequest, ServesRequest, IsServed, IsSession}
 use Rattle.quotactl.proofs.Owning.{owns_same, owns_append}
 use Rattle.quotactl.proofs.Lines.{imap_filled}
+use Rattle.quotactl.proofs.OneWay.{imap_one_way}
 
 module _ (left left' written written' : Option (List ℕ)) (waiting waiting' : List ℕ) (taken taken' at at' : ℕ) (account account' : Book) (text : List ℕ) where
   -- the answer was written
@@ -219,11 +221,14 @@ module _ (left mid left' written sent written' : Option (List ℕ)) (waiting wai
 -- where nothing failed, the input decides the end
 pub decided_by : (left left' written written' : Option (List ℕ)) (account account' : Book) (end : SessionEnd) (R W : Type 0) → IsSession left left' written written' account account' end
     → (end ≡ ReadFault → R) → (end ≡ WriteFault → W)
-    → IfSome left (λ input. (due : SessionEnd) → InputEnds imap input_limit input due → (R → ⊥) → (W → ⊥) → (end ≡ due) ⊎ (end ≡ NoMemory))
+    → IfSome left (λ input. EndsAsDecided imap input_limit input (R ⊎ W) end)
 decided_by None left' written written' account account' end R W s read write = tt
 decided_by (Some input) None written written' account account' end R W s read write = absurd s.consumed
-decided_by (Some input) (Some rest) written written' account account' end R W s read write = λ due ends unread unwritten.
-    end_decided imap input_limit imap_filled input s.taken rest s.log s.text end due s.consumed s.session ends ((λ e. unread (read e)), (λ e. unwritten (write e)))
+decided_by (Some input) (Some rest) written written' account account' end R W s read write = record {
+  decides = has_end imap input_limit imap_filled imap_one_way input;
+  ends = λ due ends quiet.
+      end_decided imap input_limit imap_filled input s.taken rest s.log s.text end due s.consumed s.session ends ((λ e. quiet (inl (read e))), (λ e. quiet (inr (write e))));
+}
 
 -- the same session, of a source that is known by another name
 pub session_of : (left given left' kept written written' : Option (List ℕ)) (account account' : Book) (end : SessionEnd) → given ≡ left → kept ≡ left'

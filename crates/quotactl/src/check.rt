@@ -1,15 +1,15 @@
 // The command `check`: what a ledger holds.
 ghost use Rattle.std.specs.Prelude.{◌≡◌, ◌≢◌, ◌++◌, codes, OnOk, IfOk, IfErr};
-ghost use Rattle.wire_io.specs.Causes.{Rose};
+ghost use Rattle.quota_units.specs.Causes.{Rose};
 ghost use Rattle.maildirsize.specs.Reading.{SumsUp, fault_of};
 ghost use Rattle.maildirsize.specs.Written.{written_definition};
 ghost use Rattle.quotactl.specs.Checking.{said, sums_text, values_text, fault_text, Tells, TakesLedger, TakesSome, ChecksLedger};
 
 use itoa::{Buffer, Integer};
 use maildirsize::{LedgerFault, LedgerText, Text, print_definition, read_ledger};
-use quota_units::Limits;
+use quota_units::{Failed, Limits};
 use std::alloc::{AllocError, Global};
-use wire_io::{Failed, Feed, FeedEnd, Sink, Source, send};
+use wire_io::{Feed, FeedEnd, Sink, Source, send};
 
 /// The most bytes that are read.
 const MAX_CHECKED: usize = 65536;

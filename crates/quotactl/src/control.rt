@@ -2,7 +2,7 @@
 ghost use Rattle.std.specs.Prelude.{◌≡◌, ◌≢◌, ◌<◌, ◌≤◌, ◌↔◌, ◌++◌, ℕ, List, take, map, IfSome};
 ghost use Rattle.std.specs.String.{string_bytes};
 ghost use Rattle.std.specs.Io.KnownBytes.{Appends};
-ghost use Rattle.wire_io.specs.Causes.{Rose};
+ghost use Rattle.quota_units.specs.Causes.{Rose};
 ghost use Rattle.quotactl.specs.Texts.{greeting};
 ghost use Rattle.quotactl.specs.Words.{IsForm, IsNoForm};
 ghost use Rattle.quotactl.specs.Checking.{Tells, max_checked};
@@ -12,9 +12,9 @@ use crate::check::check;
 use crate::form::{Form, form_of};
 use crate::owner::Owner;
 use crate::session::run_session;
-use quota_units::{Limits, NoMemory};
+use quota_units::{Failed, Limits, NoMemory};
 use std::alloc::Global;
-use wire_io::{Failed, SessionEnd, Sink, Source, send};
+use wire_io::{SessionEnd, Sink, Source, send};
 
 /// What answers words that are of no form.
 const USAGE: &[u8] =

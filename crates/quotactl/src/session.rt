@@ -3,10 +3,9 @@ ghost use Rattle.std.specs.Prelude.{◌≡◌, ◌≢◌, ◌≤◌, ◌⊎◌, 
 ghost use Rattle.wire_io.specs.Lines.{IsLine};
 ghost use Rattle.quotactl.specs.Held.{IsAsked};
 ghost use Rattle.quotactl.specs.Imap.{max_text, imap};
-ghost use Rattle.wire_io.specs.Causes.{Rose};
+ghost use Rattle.quota_units.specs.Causes.{Rose};
 ghost use Rattle.wire_io.specs.Feeds.{source_of, source_name, waiting_of, taken_of, handed_of, limit_of};
-ghost use Rattle.wire_io.specs.Session.{InputEnds};
-ghost use Rattle.wire_io.specs.declared.ends.SessionEnd.{SessionEnd as End};
+ghost use Rattle.wire_io.specs.Session.{EndsAsDecided};
 ghost use Rattle.quotactl.specs.Texts.{tagged_line};
 ghost use Rattle.quotactl.specs.Serving.{input_limit, end_at, TakesRequest, ServesRequest, IsServed, IsSession, AnswersCall, LeavesCall, AnswersCommand, LeavesCommand, Answered, Abandoned};
 
@@ -19,9 +18,9 @@ use crate::texts::{
 use account_core::{Call, StepError};
 use imap_grammar::{AskedLimit, Astring, Command, CommandFault, read_tagged};
 use quota_roots::canonical_spelling;
-use quota_units::{Name, NameError, NoMemory};
+use quota_units::{Failed, Name, NameError, NoMemory};
 use std::alloc::Global;
-use wire_io::{After, Failed, Feed, FeedEnd, LineEnd, SessionEnd, Sink, Source, send};
+use wire_io::{After, Feed, FeedEnd, LineEnd, SessionEnd, Sink, Source, send};
 
 /// The most bytes of a command's text.
 const MAX_TEXT: usize = 16384;
@@ -338,10 +337,9 @@ pub fn run_session<S: Source, O: Sink>(
     ensures write_fault { result ≡ SessionEnd.WriteFault → Rose (O.faults sink.old) (O.faults sink.new) }
     ensures write_kept { result ≢ SessionEnd.WriteFault → O.faults sink.new ≡ O.faults sink.old }
 
-    // Where nothing failed, the input decides the end, but for want of memory.
-    ensures decided { IfSome (S.left source.old) (λ input. (due : End) → InputEnds imap input_limit input due
-        → (Rose (S.faults source.old) (S.faults source.new) → ⊥) → (Rose (O.faults sink.old) (O.faults sink.new) → ⊥)
-        → (result ≡ due) ⊎ (result ≡ SessionEnd.NoMemory)) }
+    // The input decides an end, and if nothing failed, the session ends so, unless memory ran out.
+    ensures decided { IfSome (S.left source.old) (λ input. EndsAsDecided imap input_limit input
+        (Rose (S.faults source.old) (S.faults source.new) ⊎ Rose (O.faults sink.old) (O.faults sink.new)) result) }
 {
     if let Err(Failed) = send(sink, GREETING) {
         return SessionEnd::WriteFault;

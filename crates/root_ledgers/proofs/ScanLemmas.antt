@@ -3,7 +3,7 @@ use Rattle.std.proofs.Common.{◌≡◌, ℕ, ◌+◌, ◌<◌, List, length, ta
 use Rattle.std.proofs.lemmas.List.{take_more}
 use Rattle.std.proofs.lemmas.List.Sums.{sum_by_push}
 use Rattle.quota_units.specs.declared.totals.Totals.{Totals}
-use Rattle.root_ledgers.specs.Scans.{cut}
+use Rattle.quota_units.specs.Sums.{cut}
 
 pub same_totals : {a b c d : ℕ} → a ≡ c → b ≡ d → (let x : Totals = record { octets = a; count = b } in x) ≡ record { octets = c; count = d }
 same_totals {b = b} {c = c} e f = ap (λ n. let x : Totals = record { octets = n; count = b } in x) e ∙ ap (λ n. let x : Totals = record { octets = c; count = n } in x) f

@@ -11,7 +11,8 @@ use Rattle.keeper.specs.Files.{Files, Row, listed}
 use Rattle.keeper.specs.Calls.{Told, Changes}
 use Rattle.keeper.specs.declared.rows.FileRow.{FileRow}
 use Rattle.keeper.proofs.Changing.{changes_then, changes_weaken}
-use Rattle.root_ledgers.specs.Scans.{AreSmall, cut, cut_totals, scan, sizes_of}
+use Rattle.quota_units.specs.Sums.{AreSmall, cut, cut_totals}
+use Rattle.root_ledgers.specs.Scans.{scan, sizes_of}
 use Rattle.root_ledgers.specs.Scanning.{AreScans, IsFresh, IsScan, ScansList, counted, empty_scan, scan_at}
 use Rattle.root_ledgers.proofs.ScanLemmas.{same_totals, sum_more}
 

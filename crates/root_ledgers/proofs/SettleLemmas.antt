@@ -18,7 +18,8 @@ use Rattle.root_ledgers.specs.declared.book.Standing.TheVariants.{Settled, Doubt
 use Rattle.root_ledgers.specs.Scans.{scan}
 use Rattle.root_ledgers.specs.Scanning.{AreScans, IsScan, is_wanted}
 use Rattle.root_ledgers.specs.Ledgers.{folded}
-use Rattle.root_ledgers.specs.Settling.{OnFiles, book_at, folded_book, SettlesOrStays, Settling, Marks, MarksOne, comes_under}
+use Rattle.quota_roots.specs.Governing.{comes_under}
+use Rattle.root_ledgers.specs.Settling.{OnFiles, book_at, folded_book, SettlesOrStays, Settling, Marks, MarksOne}
 use Rattle.keeper.proofs.Changing.{changes_then}
 
 one_then : (may may1 : Bool) → (may1 ≡ true → may ≡ true) → (limits : LimitNumbers) (totals totals1 : Totals) → totals1 ≡ totals → (book book1 book2 : Book) (ledger ledger1 ledger2 : Option (List ℕ))

@@ -14,7 +14,7 @@ use Rattle.root_ledgers.specs.declared.book.Standing.{Standing}
 use Rattle.root_ledgers.specs.declared.book.Standing.TheVariants.{Settled, Doubt}
 use Rattle.root_ledgers.specs.declared.change.Change.{Change}
 use Rattle.root_ledgers.specs.declared.change.Change.TheVariants.{Comes, Goes}
-use Rattle.root_ledgers.specs.Scans.{cut_totals}
+use Rattle.quota_units.specs.Sums.{cut_totals}
 use Rattle.root_ledgers.specs.Ledgers.{folded}
 use Rattle.root_ledgers.specs.Settling.{book_at}
 

@@ -6,7 +6,8 @@ use Rattle.keeper.specs.Files.{Row}
 use Rattle.keeper.specs.Calls.{Told}
 use Rattle.root_ledgers.specs.declared.book.Standing.{Standing}
 use Rattle.root_ledgers.specs.declared.book.Standing.TheVariants.{Settled, Doubt}
-use Rattle.root_ledgers.specs.Scans.{scan, cut_totals, AreSmall}
+use Rattle.quota_units.specs.Sums.{cut_totals, AreSmall}
+use Rattle.root_ledgers.specs.Scans.{scan}
 
 -- the files stay, and these totals are what the files of these mailboxes add up to
 abbrev pub ScansSome : List RootSpec → ℕ → List (List ℕ) → Totals → Told → Told → Type 0

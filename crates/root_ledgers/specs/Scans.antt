@@ -1,6 +1,7 @@
 -- A fresh scan: what the files of the mailboxes that a root governs add up to.
-use Rattle.std.specs.Prelude.{◌<◌, ◌-◌, ◌^◌, ℕ, min, if◌then◌else◌, List, length, sum_by}
+use Rattle.std.specs.Prelude.{ℕ, if◌then◌else◌, List, length, sum_by}
 use Rattle.quota_units.specs.declared.totals.Totals.{Totals}
+use Rattle.quota_units.specs.Sums.{cut_totals}
 use Rattle.quota_roots.specs.declared.root.RootSpec.{RootSpec}
 use Rattle.quota_roots.specs.Governing.{governs_at}
 use Rattle.keeper.specs.Files.{Row, listed}
@@ -20,19 +21,5 @@ scanned_octets roots root mailboxes rows = sum_by (λ mailbox. if governs_at roo
 abbrev pub scanned_count : List RootSpec → ℕ → List (List ℕ) → List Row → ℕ
 scanned_count roots root mailboxes rows = sum_by (λ mailbox. if governs_at roots root mailbox then length (listed mailbox rows) else 0) mailboxes
 
--- No account that tells comes so far: what is kept of a store that tells nothing is cut here.
-abbrev pub most : ℕ
-most = 2 ^ 62 - 1
-
-abbrev pub cut : ℕ → ℕ
-cut n = min n most
-
-abbrev pub cut_totals : ℕ → ℕ → Totals
-cut_totals octets count = record { octets = cut octets; count = cut count }
-
 abbrev pub scan : List RootSpec → ℕ → List (List ℕ) → List Row → Totals
 scan roots root mailboxes rows = cut_totals (scanned_octets roots root mailboxes rows) (scanned_count roots root mailboxes rows)
-
-pub record AreSmall (totals : Totals) : Type 0 where
-  pub octets : totals.octets < 2 ^ 62
-  pub count : totals.count < 2 ^ 62

@@ -1,9 +1,8 @@
 -- What settling does to what is kept of the roots and to their ledgers.
-use Rattle.std.specs.Prelude.{◌≡◌, ◌<◌, ◌⊎◌, ℕ, Bool, true, List, length, map, slice_index_or, Option, Some, None}
+use Rattle.std.specs.Prelude.{◌≡◌, ◌<◌, ◌⊎◌, ℕ, Bool, true, List, length, map, slice_index_or, Option, Some}
 use Rattle.quota_units.specs.Limiting.{LimitNumbers}
 use Rattle.quota_units.specs.declared.totals.Totals.{Totals}
 use Rattle.quota_roots.specs.declared.root.RootSpec.{RootSpec}
-use Rattle.quota_roots.specs.Governing.{gaining, gains_at, governing, governs_at}
 use Rattle.keeper.specs.Files.{Files, ledger_at}
 use Rattle.keeper.specs.Calls.{Told, Changes}
 use Rattle.admission.specs.Fitting.{limits_at}
@@ -12,16 +11,6 @@ use Rattle.root_ledgers.specs.declared.book.Standing.{Standing}
 use Rattle.root_ledgers.specs.declared.book.Standing.TheVariants.{Settled, Doubt}
 use Rattle.root_ledgers.specs.Scans.{scan}
 use Rattle.root_ledgers.specs.Ledgers.{folded, IsRight}
-
--- the root governs the mailbox that a message comes to, and not the one that it comes from, where there is one
-abbrev pub comes_under : List RootSpec → Option (List ℕ) → List ℕ → ℕ → Bool
-comes_under roots None to root = governs_at roots root to
-comes_under roots (Some from) to root = gains_at roots root from to
-
--- the numbers of those roots, in order
-abbrev pub coming : List RootSpec → Option (List ℕ) → List ℕ → List ℕ
-coming roots None to = governing roots to
-coming roots (Some from) to = gaining roots from to
 
 -- what the files change by, where they are told
 abbrev pub OnFiles : (Files → Files → Type 0) → Told → Told → Type 0

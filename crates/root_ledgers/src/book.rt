@@ -1,7 +1,7 @@
 // What is kept of a quota root.
 ghost use Rattle.std.specs.Prelude.{◌≡◌, ℕ, length, IfOk, All};
 ghost use Rattle.root_ledgers.specs.declared.book.Standing.TheVariants.{Doubt};
-ghost use Rattle.root_ledgers.specs.Scans.{AreSmall};
+ghost use Rattle.quota_units.specs.Sums.{AreSmall};
 ghost use Rattle.root_ledgers.specs.Settling.{book_at};
 
 use quota_units::Totals;

@@ -2,12 +2,11 @@
 ghost use Rattle.std.specs.Prelude.{◌≡◌, ◌<◌, length};
 ghost use Rattle.std.specs.Option.{option_map};
 ghost use Rattle.root_ledgers.specs.Lines.{change_at, governs_in, line_by, totals_by};
-ghost use Rattle.root_ledgers.specs.Scans.{AreSmall};
+ghost use Rattle.quota_units.specs.Sums.{AreSmall};
 
-use crate::scan::cut_sum;
 use maildirsize::{Text, print_line};
 use quota_roots::Roots;
-use quota_units::Totals;
+use quota_units::{Totals, cut_sum};
 
 /// What a message that comes to or goes from the mailboxes of a quota root does to the root's usage.
 #[derive(Clone, Copy, Debug, PartialEq, Eq)]

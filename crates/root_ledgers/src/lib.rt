@@ -11,5 +11,5 @@ mod settling;
 pub use book::{Book, Standing, books_in_doubt};
 pub use change::Change;
 pub use lines::write_lines;
-pub use scan::{MOST, cut_sum, size_of_file, totals_of_files};
-pub use settling::{coming, settle, settle_coming};
+pub use scan::{size_of_file, totals_of_files};
+pub use settling::{settle, settle_coming};

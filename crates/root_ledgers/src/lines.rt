@@ -7,7 +7,7 @@ ghost use Rattle.keeper.specs.Calls.{Changes, OneLedger, Spends};
 ghost use Rattle.root_ledgers.specs.declared.book.Standing.TheVariants.{Settled};
 ghost use Rattle.root_ledgers.specs.Ledgers.{folded};
 ghost use Rattle.root_ledgers.specs.Lines.{HasCauses, FoldsShort, BookLined, BooksLined, LedgerLined, LedgersLined, fell_below, change_at, LineLedger, ChangedLedger, changed_book, fallen_by, fallen_at, has_room, line_by, lined_book};
-ghost use Rattle.root_ledgers.specs.Scans.{AreSmall};
+ghost use Rattle.quota_units.specs.Sums.{AreSmall};
 ghost use Rattle.root_ledgers.specs.Settling.{OnFiles, book_at};
 
 use crate::book::{Book, Standing};

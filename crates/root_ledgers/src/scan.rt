@@ -1,31 +1,16 @@
 // A fresh scan of the files of an account.
 ghost use Rattle.std.specs.Prelude.{◌≡◌, ◌+◌, ◌<◌, ◌^◌, length, IfOk, IsErrOf};
-ghost use Rattle.keeper.specs.Causes.{HasCause};
+ghost use Rattle.quota_units.specs.Causes.{HasCause};
 ghost use Rattle.keeper.specs.Calls.{Changes, Spends};
-ghost use Rattle.root_ledgers.specs.Scans.{AreSmall, cut_totals, scan, size_of_file, sizes_of};
+ghost use Rattle.quota_units.specs.Sums.{AreSmall, cut_totals};
+ghost use Rattle.root_ledgers.specs.Scans.{scan, size_of_file, sizes_of};
 ghost use Rattle.root_ledgers.specs.Scanning.{Scans};
 
 use keeper::{FileRow, KeepError, Keeper};
 use message_names::{parse_name, size_of};
 use quota_roots::Setup;
-use quota_units::Totals;
+use quota_units::{Totals, cut_sum};
 use std::alloc::Global;
-
-/// What totals are cut at. No account that tells its files comes so far.
-pub const MOST: u64 = 4611686018427387903;
-
-/// The sum, cut.
-pub fn cut_sum(totals: Totals, more: Totals) -> Totals
-    requires totals { AreSmall totals }
-    requires more { AreSmall more }
-    ensures value { result ≡ cut_totals (totals.octets + more.octets) (totals.count + more.count) }
-    ensures small { AreSmall result }
-{
-    Totals {
-        octets: (totals.octets + more.octets).min(MOST),
-        count: (totals.count + more.count).min(MOST),
-    }
-}
 
 /// The octets of the message that a file tells.
 pub fn size_of_file(file: &FileRow) -> u64

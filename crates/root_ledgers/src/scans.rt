@@ -1,19 +1,19 @@
 // Fresh scans of several roots: each mailbox is listed once for all of them.
 ghost use Rattle.std.specs.Prelude.{◌≡◌, ◌+◌, ◌<◌, ℕ, true, false, is_some, length, IfOk, IfSome, IsErrOf};
-ghost use Rattle.keeper.specs.Causes.{HasCause};
+ghost use Rattle.quota_units.specs.Causes.{HasCause};
 ghost use Rattle.keeper.specs.Calls.{Changes, Spends};
 ghost use Rattle.std.specs.Option.{option_map};
 ghost use Rattle.quota_roots.specs.Governing.{governs_at};
-ghost use Rattle.root_ledgers.specs.Scans.{AreSmall};
+ghost use Rattle.quota_units.specs.Sums.{AreSmall};
 ghost use Rattle.root_ledgers.specs.Scanning.{AreScans, IsScan, ScansEach, counted, empty_scan, is_wanted, scan_at};
-ghost use Rattle.root_ledgers.specs.Settling.{book_at, comes_under};
+ghost use Rattle.quota_roots.specs.Governing.{comes_under};
+ghost use Rattle.root_ledgers.specs.Settling.{book_at};
 
 use crate::book::{Book, Standing};
-use crate::scan::{cut_sum, totals_of_files};
-use crate::settling::comes_under;
+use crate::scan::totals_of_files;
 use keeper::{KeepError, Keeper};
 use quota_roots::{Roots, Setup};
-use quota_units::Totals;
+use quota_units::{Totals, cut_sum};
 use std::alloc::{AllocError, Global};
 
 /// A scan that has counted nothing yet, where a root is in doubt and may be settled; none else.
@@ -44,7 +44,7 @@ fn empty_scans(
 {
     let mut scans = Vec::new(alloc);
     for root in 0..roots.count() {
-        let may = comes_under(roots, root, from, to);
+        let may = roots.comes_under(root, from, to);
         scans.push(empty_scan(may, books[root as usize].standing))?;
     }
     Ok(scans)

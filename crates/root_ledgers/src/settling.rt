@@ -1,19 +1,21 @@
 // Roots in doubt are settled.
 ghost use Rattle.std.specs.Prelude.{◌≡◌, ◌+◌, ◌<◌, ℕ, true, length, nat_eq, IfSome, OnOk, IsErr, IsErrOf, All};
-ghost use Rattle.keeper.specs.Causes.{HasCause};
+ghost use Rattle.quota_units.specs.Causes.{HasCause};
 ghost use Rattle.keeper.specs.Calls.{Changes, Spends};
 ghost use Rattle.std.specs.Option.{option_map};
 ghost use Rattle.root_ledgers.specs.declared.book.Standing.TheVariants.{Settled, Doubt};
-ghost use Rattle.root_ledgers.specs.Scans.{AreSmall, scan};
-ghost use Rattle.root_ledgers.specs.Settling.{OnFiles, Settling, Marks, Spared, book_at, comes_under, coming};
+ghost use Rattle.quota_units.specs.Sums.{AreSmall};
+ghost use Rattle.root_ledgers.specs.Scans.{scan};
+ghost use Rattle.quota_roots.specs.Governing.{comes_under, coming};
+ghost use Rattle.root_ledgers.specs.Settling.{OnFiles, Settling, Marks, Spared, book_at};
 
 use crate::book::{Book, Standing};
 use crate::scan::scan_root;
 use crate::scans::scan_coming;
-use keeper::{Failed, KeepError, Keeper};
+use keeper::{KeepError, Keeper};
 use maildirsize::{Text, print_folded};
-use quota_roots::{RootSet, Roots, Setup};
-use quota_units::{Limits, Totals};
+use quota_roots::Setup;
+use quota_units::{Failed, Limits, Totals};
 use std::alloc::Global;
 
 /// Installs the folded text of a fresh scan as the ledger of a root in doubt, which is settled then.
@@ -126,26 +128,4 @@ pub fn settle_coming<K: Keeper>(
         }
     }
     Ok(())
-}
-
-/// Whether a message that goes from one mailbox to another comes under the root.
-pub(crate) fn comes_under(roots: &Roots, root: u32, from: Option<&[u8]>, to: &[u8]) -> bool
-    requires { root < length roots.now }
-    ensures { result ≡ comes_under roots.now (option_map (λ m. m.now) from.entry) to.now root }
-{
-    match from {
-        None => roots.governs(root, to),
-        Some(from) => roots.governs(root, to) && !roots.governs(root, from),
-    }
-}
-
-/// The roots that a message comes under which goes from one mailbox to another; one that is delivered comes from none.
-pub fn coming(roots: &Roots, from: Option<&[u8]>, to: &[u8]) -> RootSet
-    ensures value { result ≡ coming roots.now (option_map (λ m. m.now) from.entry) to.now }
-    ensures below { All (λ root. root < length roots.now) result }
-{
-    match from {
-        None => roots.roots_of(to),
-        Some(from) => roots.gained(from, to),
-    }
 }

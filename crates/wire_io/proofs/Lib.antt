@@ -6,3 +6,4 @@ pub mod FeedLemmas
 pub mod LineLemmas
 pub mod PieceLemmas
 pub mod SendLemmas
+pub mod Endings

@@ -1,4 +1,3 @@
-pub mod Causes
 pub mod Feeding
 pub mod Feeds
 pub mod Lines

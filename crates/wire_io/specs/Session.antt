@@ -143,6 +143,10 @@ module _ {State Request Call Answer : Type 0} (p : Protocol State Request Call A
   RestEnds limit state at bytes WriteFault = ⊥
   RestEnds limit state at bytes NoMemory = ⊥
 
+  -- whatever the calls of a request are answered, the session does the same after it
+  abbrev pub EndsOneWay : Type 0
+  EndsOneWay = (state : State) (request : Request) → (word : After) × AlwaysEnds (p.work state request) word
+
   -- how an input ends a session of the protocol, where nothing fails
   pub record InputEnds (limit : ℕ) (input : List ℕ) (end : SessionEnd) : Type 0 where
     pub xs : List (Spelling Request)
@@ -151,6 +155,13 @@ module _ {State Request Call Answer : Type 0} (p : Protocol State Request Call A
     pub outlived : Outlives p.start xs state
     pub input_is : input ≡ spelled_bytes xs ++ bytes
     pub ends : RestEnds limit state (length (spelled_bytes xs)) bytes end
+
+module _ {State Request Call Answer : Type 0} (p : Protocol State Request Call Answer) where
+  -- The input has an end that it decides, and a session of it ends so, unless something failed or
+  -- memory ran out.
+  pub record EndsAsDecided (limit : ℕ) (input : List ℕ) (failed : Type 0) (end : SessionEnd) : Type 0 where
+    pub decides : (due : SessionEnd) × InputEnds p limit input due
+    pub ends : (due : SessionEnd) → InputEnds p limit input due → ¬ failed → (end ≡ due) ⊎ (end ≡ NoMemory)
 
 -- the end is none that a fault gives
 abbrev pub IsQuiet : SessionEnd → Type 0

@@ -1,13 +1,9 @@
 ghost use Rattle.std.specs.Prelude.{◌≡◌};
 ghost use Rattle.wire_io.specs.declared.ends.FeedEnd.TheVariants.{Fault, NoMemory as no_memory};
 
+use quota_units::Failed;
 use std::alloc::AllocError;
 use thiserror::Error;
-
-/// A fault outside, which the count of faults of the object that was called has seen.
-#[derive(Clone, Copy, Debug, PartialEq, Eq, Error)]
-#[error("a fault outside")]
-pub struct Failed;
 
 /// The protocols that a mail host's quota service speaks.
 #[derive(Clone, Copy, Debug, PartialEq, Eq)]

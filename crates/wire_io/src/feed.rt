@@ -1,6 +1,6 @@
 ghost use Rattle.std.specs.Prelude.{◌≡◌, ◌≢◌, ◌≤◌, ◌<◌, ◌-◌, ◌+◌, ◌⊎◌, ◌↔◌, ℕ, List, [], ◌++◌, true, false, Option, take, drop, IfOk, IfErr, IsOk, OnOk, OnErr, IsErrOf, length, MatchResult};
 ghost use Rattle.std.specs.Io.KnownBytes.{Consumes, Keeps, IsAtEnd};
-ghost use Rattle.wire_io.specs.Causes.{HasCause, Rose};
+ghost use Rattle.quota_units.specs.Causes.{HasCause, Rose};
 ghost use Rattle.wire_io.specs.Lines.{HasNoEnd, IsLine};
 
 use super::ends::{FeedEnd, LineEnd};

@@ -1,6 +1,6 @@
 ghost use Rattle.std.specs.Prelude.{◌≡◌, ◌≢◌, ◌⊎◌, ℕ, List, [], ◌++◌};
 ghost use Rattle.wire_io.specs.Protocol.{Protocol, IsFilled, HasOneCut};
-ghost use Rattle.wire_io.specs.Session.{Session, InputEnds, IsQuiet};
+ghost use Rattle.wire_io.specs.Session.{Session, EndsOneWay, InputEnds, IsQuiet};
 ghost use Rattle.wire_io.specs.Transcript.{Answers, IsAnswered, transcript};
 ghost use Rattle.wire_io.specs.declared.ends.SessionEnd.{SessionEnd as End};
 
@@ -18,6 +18,12 @@ pub fn an_input_decides_the_end<State, Request, Call, Answer>()
     ensures { IsFilled p → (limit : ℕ) (input taken left : List ℕ) (log : List (Call × Answer)) (written : List ℕ) (end due : End)
         → input ≡ taken ++ left → Session p limit (left ≡ []) taken log written end → InputEnds p limit input due → IsQuiet end
         → (end ≡ due) ⊎ (end ≡ SessionEnd.NoMemory) }
+{}
+
+/// Each input has an end that it decides, if what the session does after a request never hangs on the answers to its calls.
+pub fn each_input_has_an_end<State, Request, Call, Answer>()
+    ghost p: { Protocol State Request Call Answer }
+    ensures { IsFilled p → EndsOneWay p → (limit : ℕ) (input : List ℕ) → (due : End) × InputEnds p limit input due }
 {}
 
 /// Where each call is answered by a world that only these calls change, the bytes of an input decide all that a session writes,

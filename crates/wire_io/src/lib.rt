@@ -9,9 +9,12 @@ mod piece;
 mod real;
 mod source;
 
-pub use ends::{After, Failed, FeedEnd, LineEnd, SessionEnd, Wire};
+pub use ends::{After, FeedEnd, LineEnd, SessionEnd, Wire};
 pub use feed::Feed;
-pub use laws::{an_input_decides_the_end, an_input_decides_the_session, each_text_has_one_cut};
+pub use laws::{
+    an_input_decides_the_end, an_input_decides_the_session, each_input_has_an_end,
+    each_text_has_one_cut,
+};
 pub use memory::{MemSink, MemSource};
 pub use real::{StdSink, StdSource};
 pub use source::{Sink, Source, send};

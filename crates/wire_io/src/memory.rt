@@ -1,11 +1,10 @@
 ghost use Rattle.std.specs.Prelude.{◌≡◌, ◌≤◌, ◌<◌, ◌↔◌, [], Some, length, IfOk, IsErr, MatchResult};
 ghost use Rattle.std.specs.Io.KnownBytes.{ReadConsumes, WriteAppends};
-ghost use Rattle.wire_io.specs.Causes.{HasCause};
+ghost use Rattle.quota_units.specs.Causes.{HasCause};
 ghost use Rattle.wire_io.specs.Memory.{FailsRead, read_count, after_read, after_failed_read, FailsWrite, write_count, after_write, after_failed_write};
 
-use super::ends::Failed;
 use super::source::{Sink, Source};
-use quota_units::NoMemory;
+use quota_units::{Failed, NoMemory};
 use std::alloc::Global;
 use std::marker::Model;
 
@@ -58,7 +57,7 @@ impl Source for MemSource {
     fn read(&mut self, into: &mut [u8]) -> Result<usize, Failed>
         ensures bound { IfOk result (λ n. n ≤ length into.new) }
         ensures bytes { ReadConsumes (Some self.old.left) (Some self.new.left) result into.new }
-        ensures cause { HasCause self.old.faults self.new.faults result }
+        ensures cause { HasCause (IsErr result) self.old.faults self.new.faults }
         ensures fails { IsErr result ↔ FailsRead self.old }
         ensures count { IfOk result (λ n. n ≡ read_count self.old (length into.old)) }
         ensures after { MatchResult result (λ n. self.new ≡ after_read self.old n) (λ _. self.new ≡ after_failed_read self.old) }
@@ -139,11 +138,10 @@ impl Sink for MemSink {
     ghost faults = { λ s. s.faults };
 
     fn write(&mut self, piece: &[u8]) -> Result<usize, Failed>
-        requires { 0 < length piece.now }
         ensures bound { IfOk result (λ n. n ≤ length piece.now) }
-        ensures some { IfOk result (λ n. 0 < n) }
+        ensures some { 0 < length piece.now → IfOk result (λ n. 0 < n) }
         ensures bytes { WriteAppends (Some self.old.written) (Some self.new.written) result piece.now }
-        ensures cause { HasCause self.old.faults self.new.faults result }
+        ensures cause { HasCause (IsErr result) self.old.faults self.new.faults }
         ensures fails { IsErr result ↔ FailsWrite self.old }
         ensures count { IfOk result (λ n. n ≡ write_count self.old (length piece.now)) }
         ensures after { MatchResult result (λ n. self.new ≡ after_write self.old piece.now n) (λ _. self.new ≡ after_failed_write self.old) }

@@ -1,9 +1,9 @@
-ghost use Rattle.std.specs.Prelude.{◌≡◌, ◌≤◌, ◌<◌, [], drop, length, MatchResult};
+ghost use Rattle.std.specs.Prelude.{◌≡◌, ◌≤◌, ◌<◌, [], drop, length, IsErr, MatchResult};
 ghost use Rattle.std.specs.Io.KnownBytes.{Consumes, Keeps, IsAtEnd};
-ghost use Rattle.wire_io.specs.Causes.{HasCause};
+ghost use Rattle.quota_units.specs.Causes.{HasCause};
 
-use super::ends::Failed;
 use super::source::Source;
+use quota_units::Failed;
 use std::marker::Model;
 
 /// The most bytes that are taken from a source at once.
@@ -71,7 +71,7 @@ impl Piece {
             (λ n. (length self.new ≡ n) × Consumes (S.left source.old) (S.left source.new) self.new
             × (n ≡ 0 → 0 < most → IsAtEnd (S.left source.new)))
             (λ _. (self.new ≡ []) × Keeps (S.left source.old) (S.left source.new)) }
-        ensures cause { HasCause (S.faults source.old) (S.faults source.new) result }
+        ensures cause { HasCause (IsErr result) (S.faults source.old) (S.faults source.new) }
     {
         let room = most.min(PIECE_BYTES as u64) as usize;
         let count = source.read(&mut self.bytes[..room])?;

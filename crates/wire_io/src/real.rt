@@ -1,9 +1,9 @@
 ghost use Rattle.std.specs.Prelude.{◌≡◌, ◌<◌, ◌+◌, ◌-◌, ◌^◌, min, Option, IfOk, IsErr, length, ◌≤◌};
 ghost use Rattle.std.specs.Io.KnownBytes.{WriteAppends};
-ghost use Rattle.wire_io.specs.Causes.{HasCause};
+ghost use Rattle.quota_units.specs.Causes.{HasCause};
 
-use super::ends::Failed;
 use super::source::{Sink, Source};
+use quota_units::Failed;
 use std::io::{Read, Write};
 
 /// A source over a reader, which tells what the reader tells.
@@ -56,7 +56,8 @@ pub struct StdSink<W> {
 impl<W: Write> StdSink<W> {
     ghost use Rattle.wire_io.specs.Real.{writer_of, unflushed_of, write_faults_of};
 
-    /// A sink that writes this writer. An `Err` of a write or of its flush is one fault, and so is a write that takes nothing.
+    /// A sink that writes this writer. An `Err` of a write or of its flush is one fault, and so is a write that takes
+    /// nothing of a piece that is not empty.
     pub fn new(writer: W) -> StdSink<W>
         ensures writer { writer_of result ≡ writer }
         ensures flushed { unflushed_of result ≡ 0 }
@@ -99,7 +100,7 @@ impl<W: Write> Sink for StdSink<W> {
             self.unflushed = count;
             return Err(self.fail());
         }
-        if count == 0 {
+        if count == 0 && !piece.is_empty() {
             return Err(self.fail());
         }
         Ok(count)

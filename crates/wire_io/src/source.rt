@@ -1,9 +1,9 @@
-ghost use Rattle.std.specs.Prelude.{◌≡◌, ◌≤◌, ◌<◌, ℕ, List, [], Option, IfOk, IsOk, OnOk, OnErr, length};
+ghost use Rattle.std.specs.Prelude.{◌≡◌, ◌≤◌, ◌<◌, ℕ, List, [], Option, IfOk, IsOk, IsErr, OnOk, OnErr, length};
 ghost use Rattle.std.specs.Io.KnownBytes.{ReadConsumes, WriteAppends, Appends};
-ghost use Rattle.wire_io.specs.Causes.{HasCause};
+ghost use Rattle.quota_units.specs.Causes.{HasCause};
 ghost use Rattle.wire_io.specs.Sending.{AppendsPart};
 
-use super::ends::Failed;
+use quota_units::Failed;
 
 /// Gives bytes from its front.
 pub trait Source {
@@ -23,7 +23,7 @@ pub trait Source {
     fn read(&mut self, into: &mut [u8]) -> Result<usize, Failed>
         ensures bound { IfOk result (λ n. n ≤ length into.new) }
         ensures bytes { ReadConsumes (left self.old) (left self.new) result into.new }
-        ensures cause { HasCause (faults self.old) (faults self.new) result };
+        ensures cause { HasCause (IsErr result) (faults self.old) (faults self.new) };
 }
 
 /// Takes bytes at its end.
@@ -34,17 +34,17 @@ pub trait Sink {
     /// How often a write has failed. The count stands still at 2^64 - 1.
     ghost faults: { Self → ℕ };
 
-    /// Takes the first bytes of a piece that is not empty, at least one, and says how many they are.
+    /// Takes the first bytes of a piece, and says how many they are: at least one if the piece is not empty.
     ///
     /// # Errors
     ///
-    /// `Failed` where the write failed, which is counted. No byte is taken then. An outside that takes nothing fails.
+    /// `Failed` if the write failed, which is counted. No byte is taken then. An outside that takes nothing of a piece that
+    /// is not empty fails.
     fn write(&mut self, piece: &[u8]) -> Result<usize, Failed>
-        requires { 0 < length piece.now }
         ensures bound { IfOk result (λ n. n ≤ length piece.now) }
-        ensures some { IfOk result (λ n. 0 < n) }
+        ensures some { 0 < length piece.now → IfOk result (λ n. 0 < n) }
         ensures bytes { WriteAppends (written self.old) (written self.new) result piece.now }
-        ensures cause { HasCause (faults self.old) (faults self.new) result };
+        ensures cause { HasCause (IsErr result) (faults self.old) (faults self.new) };
 }
 
 /// Writes all of the bytes. Each write offers all that are left, and no bytes need no write.
@@ -55,7 +55,7 @@ pub trait Sink {
 pub fn send<O: Sink>(sink: &mut O, bytes: &[u8]) -> Result<(), Failed>
     ensures sent { OnOk result (Appends (O.written sink.old) (O.written sink.new) bytes.now) }
     ensures cut { OnErr result (AppendsPart (O.written sink.old) (O.written sink.new) bytes.now) }
-    ensures cause { HasCause (O.faults sink.old) (O.faults sink.new) result }
+    ensures cause { HasCause (IsErr result) (O.faults sink.old) (O.faults sink.new) }
     ensures nothing { bytes.now ≡ [] → IsOk result × (sink.new ≡ sink.old) }
 {
     let mut sent = 0;

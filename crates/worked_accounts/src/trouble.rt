@@ -1,8 +1,8 @@
 // Why a line is not done.
 use account_ledger::OpenError;
-use keeper::{Failed, KeepError};
+use keeper::KeepError;
 use quota_roots::RootsError;
-use quota_units::{Name, NameError, NoMemory};
+use quota_units::{Failed, Name, NameError, NoMemory};
 use std::alloc::{AllocError, AllocFailed};
 use std::fmt;
 

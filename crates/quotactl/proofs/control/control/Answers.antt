@@ -3,7 +3,7 @@ use Rattle.quotactl.specs.declared.form.Form.{Form}
 use Rattle.quotactl.specs.Words.{IsForm}
 use Rattle.std.specs.String.{string_bytes}
 use Rattle.std.proofs.KnownBytes.{Keeps-refl}
-use Rattle.wire_io.specs.Causes.{Rose}
+use Rattle.quota_units.specs.Causes.{Rose}
 use Rattle.quotactl.specs.declared.form.Form.TheVariants.{Session, Check}
 use Rattle.quotactl.specs.Control.{runs, checks, refuses}
 use Rattle.quotactl.proofs.LedgerChecks.{check_output}

@@ -1,6 +1,6 @@
 use Rattle.std.proofs.Common.{rules, ◌≡◌, ap}
 use Rattle.wire_io.specs.declared.ends.SessionEnd.TheVariants.{ReadFault, WriteFault}
-use Rattle.wire_io.specs.Causes.{Rose}
+use Rattle.quota_units.specs.Causes.{Rose}
 use Rattle.wire_io.specs.Feeds.{source_of}
 use Rattle.quotactl.specs.Serving.{IsSession}
 use Rattle.quotactl.proofs.Running.{greeted, not_greeted, decided_by, session_of}
@@ -9,6 +9,17 @@ use Rattle.quotactl.proofs.session.run_session.Goals as goal
 pub returns-in-Err-clause-session : goal.returns-in-Err-clause-session
 returns-in-Err-clause-session g c =
     not_greeted (g.S.Source.left c.args.source.now) (g.O.Sink.written c.args.sink.now) (g.O.Sink.written c.send.new.sink) c.args.account.now c.in-Err.ensures.cut
+
+pub returns-in-Err-clause-decided : goal.returns-in-Err-clause-decided
+returns-in-Err-clause-decided g c =
+    let left = g.S.Source.left in
+    let session : IsSession (left c.args.source.now) (left c.args.source.now) (g.O.Sink.written c.args.sink.now) (g.O.Sink.written c.send.new.sink) c.args.account.now c.args.account.now WriteFault =
+    not_greeted (left c.args.source.now) (g.O.Sink.written c.args.sink.now) (g.O.Sink.written c.send.new.sink) c.args.account.now c.in-Err.ensures.cut in
+    let write : Rose (g.O.Sink.faults c.args.sink.now) (g.O.Sink.faults c.send.new.sink) = search rules in
+    decided_by (left c.args.source.now) (left c.args.source.now) (g.O.Sink.written c.args.sink.now) (g.O.Sink.written c.send.new.sink) c.args.account.now c.args.account.now WriteFault _ _ session (λ e. absurd (no_read e)) (λ e. write)
+  where
+    no_read : WriteFault ≡ ReadFault → ⊥
+    no_read e = cc
 
 pub returns-clause-session : goal.returns-clause-session
 returns-clause-session g c =

@@ -1,7 +1,7 @@
 use Rattle.std.proofs.Common.{◌≡◌, ℕ, length}
 use Rattle.std.specs.List.{All}
 use Rattle.root_ledgers.specs.declared.book.Standing.TheVariants.{Doubt}
-use Rattle.root_ledgers.specs.Scans.{AreSmall}
+use Rattle.quota_units.specs.Sums.{AreSmall}
 use Rattle.root_ledgers.specs.Settling.{book_at}
 use Rattle.root_ledgers.proofs.book.books_in_doubt.Given as goal
 

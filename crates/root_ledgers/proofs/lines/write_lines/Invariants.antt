@@ -3,7 +3,7 @@ use Rattle.std.specs.List.{All}
 use Rattle.std.specs.Option.{option_map}
 use Rattle.keeper.specs.Calls.{Changes, Spends}
 use Rattle.root_ledgers.specs.Lines.{change_at, BooksLined, LedgersLined, HasCauses, fell_below}
-use Rattle.root_ledgers.specs.Scans.{AreSmall}
+use Rattle.quota_units.specs.Sums.{AreSmall}
 use Rattle.root_ledgers.specs.Settling.{OnFiles}
 use Rattle.root_ledgers.proofs.lines.write_lines.Given as goal
 

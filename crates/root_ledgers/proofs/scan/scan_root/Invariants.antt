@@ -1,6 +1,6 @@
 use Rattle.std.proofs.Common.{◌≡◌, ◌+◌, take}
 use Rattle.keeper.specs.Calls.{Changes, Spends}
-use Rattle.root_ledgers.specs.Scans.{AreSmall}
+use Rattle.quota_units.specs.Sums.{AreSmall}
 use Rattle.root_ledgers.specs.Scanning.{ScansSome}
 use Rattle.root_ledgers.proofs.scan.scan_root.Given as goal
 

@@ -1,5 +1,6 @@
 use Rattle.std.proofs.Common.{◌≡◌, take}
-use Rattle.root_ledgers.specs.Scans.{AreSmall, cut_totals, sizes_of}
+use Rattle.quota_units.specs.Sums.{AreSmall, cut_totals}
+use Rattle.root_ledgers.specs.Scans.{sizes_of}
 use Rattle.root_ledgers.proofs.scan.totals_of_files.Given as goal
 
 abbrev pub invariant-loop-file : goal.invariant-loop-file

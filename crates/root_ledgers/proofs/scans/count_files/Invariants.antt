@@ -1,7 +1,7 @@
 use Rattle.std.proofs.Common.{◌≡◌, ◌<◌, ◌≤◌, ℕ, length}
 use Rattle.std.specs.Prelude.{is_some, IfSome}
 use Rattle.quota_roots.specs.Governing.{governs_at}
-use Rattle.root_ledgers.specs.Scans.{AreSmall}
+use Rattle.quota_units.specs.Sums.{AreSmall}
 use Rattle.root_ledgers.specs.Scanning.{counted, scan_at}
 use Rattle.root_ledgers.proofs.scans.count_files.Given as goal
 

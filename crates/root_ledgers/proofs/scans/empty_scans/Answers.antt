@@ -5,7 +5,8 @@ use denote.Ref.{Bor}
 use Rattle.quota_units.specs.declared.totals.Totals.{Totals}
 use Rattle.root_ledgers.specs.declared.book.Book.{Book}
 use Rattle.root_ledgers.specs.Scanning.{IsScan, empty_scan, is_wanted}
-use Rattle.root_ledgers.specs.Settling.{book_at, comes_under, no_book}
+use Rattle.quota_roots.specs.Governing.{comes_under}
+use Rattle.root_ledgers.specs.Settling.{book_at, no_book}
 use Rattle.root_ledgers.proofs.ScanningLemmas.{pushed_at, scans_more}
 use Rattle.root_ledgers.proofs.scans.empty_scans.Goals as goal
 

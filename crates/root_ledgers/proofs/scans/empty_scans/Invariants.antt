@@ -1,7 +1,8 @@
 use Rattle.std.proofs.Common.{◌≡◌, ◌<◌, ℕ}
 use Rattle.std.specs.Option.{option_map}
 use Rattle.root_ledgers.specs.Scanning.{AreScans, empty_scan, is_wanted, scan_at}
-use Rattle.root_ledgers.specs.Settling.{book_at, comes_under}
+use Rattle.quota_roots.specs.Governing.{comes_under}
+use Rattle.root_ledgers.specs.Settling.{book_at}
 use Rattle.root_ledgers.proofs.scans.empty_scans.Given as goal
 
 abbrev pub invariant-loop-root : goal.invariant-loop-root

@@ -2,7 +2,8 @@ use Rattle.std.proofs.Common.{◌≡◌, ◌+◌, length, take}
 use Rattle.keeper.specs.Calls.{Changes, Spends}
 use Rattle.std.specs.Option.{option_map}
 use Rattle.root_ledgers.specs.Scanning.{AreScans, ScansList, is_wanted}
-use Rattle.root_ledgers.specs.Settling.{book_at, comes_under}
+use Rattle.quota_roots.specs.Governing.{comes_under}
+use Rattle.root_ledgers.specs.Settling.{book_at}
 use Rattle.root_ledgers.proofs.scans.scan_coming.Given as goal
 
 abbrev pub invariant-loop-mailbox : goal.invariant-loop-mailbox

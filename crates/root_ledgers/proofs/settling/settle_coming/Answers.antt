@@ -2,7 +2,7 @@ use Rattle.std.proofs.Common.{◌∙◌, ℕ, List, arith, rules, nat_eq, length
 use Rattle.std.specs.Option.{option_map}
 use denote.Ref.{Bor}
 use Rattle.root_ledgers.specs.Scanning.{IsFresh, scan_at}
-use Rattle.root_ledgers.specs.Settling.{comes_under}
+use Rattle.quota_roots.specs.Governing.{comes_under}
 use Rattle.root_ledgers.proofs.SettleLemmas.{settles_then, marks_then, only_one, comes_inside, settled_more, settled_stays, wanted_may, unwanted_settled, rows_still, left_more, scan_here, settled_here}
 use Rattle.keeper.proofs.Spending.{spends_not, spends_then}
 use Rattle.root_ledgers.proofs.settling.settle_coming.Goals as goal

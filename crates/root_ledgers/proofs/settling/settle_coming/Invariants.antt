@@ -4,9 +4,10 @@ use Rattle.std.specs.Prelude.{IfSome}
 use Rattle.keeper.specs.Calls.{Changes, Spends}
 use Rattle.std.specs.Option.{option_map}
 use Rattle.root_ledgers.specs.declared.book.Standing.TheVariants.{Settled}
-use Rattle.root_ledgers.specs.Scans.{AreSmall}
+use Rattle.quota_units.specs.Sums.{AreSmall}
 use Rattle.root_ledgers.specs.Scanning.{IsFresh, scan_at}
-use Rattle.root_ledgers.specs.Settling.{OnFiles, Settling, Marks, book_at, comes_under}
+use Rattle.quota_roots.specs.Governing.{comes_under}
+use Rattle.root_ledgers.specs.Settling.{OnFiles, Settling, Marks, book_at}
 use Rattle.root_ledgers.proofs.settling.settle_coming.Given as goal
 
 abbrev pub invariant-loop-root : goal.invariant-loop-root

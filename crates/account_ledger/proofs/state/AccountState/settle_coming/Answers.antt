@@ -1,7 +1,7 @@
 use Rattle.std.proofs.Common.{ℕ, List}
 use Rattle.std.specs.Option.{option_map}
 use denote.Ref.{Bor}
-use Rattle.root_ledgers.specs.Settling.{comes_under}
+use Rattle.quota_roots.specs.Governing.{comes_under}
 use Rattle.account_ledger.proofs.Keeping.{order_settled}
 use Rattle.account_ledger.proofs.Stating.{ledgers_settled, texts_settled, marks_each, marks_count}
 use Rattle.account_ledger.proofs.state.AccountState.settle_coming.Goals as goal

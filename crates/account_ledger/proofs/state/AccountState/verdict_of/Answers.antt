@@ -6,7 +6,7 @@ use Rattle.quota_units.specs.Limiting.{AreLimits}
 use Rattle.admission.specs.Fitting.{first_over}
 use Rattle.account_core.specs.Machine.{over_of}
 use Rattle.root_ledgers.specs.declared.book.Standing.TheVariants.{Settled}
-use Rattle.root_ledgers.specs.Settling.{comes_under, coming}
+use Rattle.quota_roots.specs.Governing.{comes_under, coming}
 use Rattle.account_ledger.specs.Rows.{IsVerdict, totals_of}
 use Rattle.account_ledger.specs.States.{State, standing_at}
 use Rattle.account_ledger.proofs.Replying.{of_weaker, verdict_is, first_over_cut}
