@@ -1,28 +1,18 @@
 #!/usr/bin/env bash
 # Deliveries and checks per second of an account over a keeper in memory that never fails, in ten parts of one run: the account
 # has more messages and more entries in each part, and no call is to take longer for it. Beside them, how often a second the
-# octets of such messages are copied to the end of a list. It proves and builds a small program in a folder that it removes,
-# which takes many minutes where the crates were not proved before. It proves nothing of the project, and is no part of the gate.
+# octets of such messages are copied to the end of a list. It proves and builds a small program in a folder that it removes.
+# It proves nothing of the project, and is no part of the gate.
 set -eu
 top=$(cd "$(dirname "$0")/.." && pwd)
-for tool in cp git grep mktemp rt; do
-  command -v "$tool" >/dev/null || { echo "skipped: no $tool"; exit 0; }
-done
+. "$top/bench/common.sh"
+need awk cp grep mktemp rt
+make_work
 part=${1:-20000}
 octets=${2:-1000}
-work=$(mktemp -d)
-trap 'rm -rf "$work"' EXIT
-git init -q "$work"
-mkdir -p "$work/crates/delivering/src"
-for crate in quota_units quota_roots admission message_names maildirsize keeper account_core root_ledgers account_opening account_ledger; do
-  mkdir "$work/crates/$crate"
-  for folder in src specs proofs out; do
-    if [ -d "$top/crates/$crate/$folder" ]; then cp -r "$top/crates/$crate/$folder" "$work/crates/$crate/"; fi
-  done
-  grep "^$crate:" "$top/crates.txt" >>"$work/crates.txt"
-done
-echo 'delivering: quota_units quota_roots keeper account_core account_ledger' >>"$work/crates.txt"
-cat >"$work/crates/delivering/src/main.rt" <<'PROGRAM'
+
+begin_program delivering quota_units quota_roots keeper account_core account_ledger
+cat >"$crate/src/main.rt" <<'PROGRAM'
 //! Delivers messages to an account over a keeper in memory, and tells how fast.
 #![tactic(auto)]
 
@@ -161,6 +151,6 @@ fn main(rt: HostRuntime) -> io::Result<()> {
     run(&rt, part, bytes.as_slice())
 }
 PROGRAM
-cd "$work/crates/delivering"
-rt run -- "$part" "$octets" >"$work/output" 2>&1 || { cat "$work/output"; exit 70; }
-grep ' entries: ' "$work/output"
+build_program delivering
+
+"$work/delivering" "$part" "$octets"

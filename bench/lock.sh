@@ -1,23 +1,16 @@
 #!/usr/bin/env bash
 # Turns per second of the turn lock with 1, 2, 4 and 8 threads, beside a mutex of the standard library, in one run of one
-# program: each turn takes the value, adds 1 to a number and gives it back. It proves nothing and is no part of the gate.
+# program: each turn takes the value, adds 1 to a number and gives it back. It proves nothing of the project, and is no part
+# of the gate.
 set -eu
 top=$(cd "$(dirname "$0")/.." && pwd)
-for tool in rt cp grep mktemp nproc; do
-  command -v "$tool" >/dev/null || { echo "skipped: no $tool"; exit 0; }
-done
+. "$top/bench/common.sh"
+need awk cp grep mktemp nproc rt
+make_work
 turns=${1:-4000000}
-work=$(mktemp -d)
-trap 'rm -rf "$work"' EXIT
-mkdir -p "$work/crates/lock_bench/src"
-for crate in quota_units quota_roots account_core account_lock; do
-  mkdir "$work/crates/$crate"
-  cp -r "$top/crates/$crate/src" "$top/crates/$crate/specs" "$top/crates/$crate/proofs" "$work/crates/$crate/"
-  grep "^$crate[: ]" "$top/crates.txt" >>"$work/crates.txt"
-done
-echo 'lock_bench: account_core account_lock' >>"$work/crates.txt"
-cp "$top/HANDLES" "$work/HANDLES"
-cat >"$work/crates/lock_bench/src/main.rt" <<'RATTLE'
+
+begin_program lock_bench account_core account_lock
+cat >"$crate/src/main.rt" <<'PROGRAM'
 #![tactic(auto)]
 
 use std::env;
@@ -58,8 +51,8 @@ fn main(rt: HostRuntime) -> io::Result<()> {
     }
     Ok(())
 }
-RATTLE
-cat >"$work/crates/lock_bench/src/turns.rt" <<'RATTLE'
+PROGRAM
+cat >"$crate/src/turns.rt" <<'PROGRAM'
 ghost use Rattle.std.specs.Prelude.{◌≡◌, ◌<◌, [], IfOk};
 ghost use Rattle.account_lock.specs.Known.{nowhere};
 ghost use Rattle.account_lock.specs.Passes.{IsOf, view};
@@ -165,19 +158,18 @@ fn work_mutex<R: Wait>(rt: &R, mutex: &Mutex<u64>, turns: u64) {
         *number = number.wrapping_add(1);
     }
 }
-RATTLE
-proof=$work/crates/lock_bench/proofs/turns/workers
-mkdir -p "$proof"
-: >"$work/crates/lock_bench/proofs/Lib.antt"
-cat >"$proof/Invariants.antt" <<'RATTLE'
+PROGRAM
+mkdir -p "$crate/proofs/turns/workers"
+: >"$crate/proofs/Lib.antt"
+cat >"$crate/proofs/turns/workers/Invariants.antt" <<'PROOF'
 use Rattle.std.proofs.Common.{◌≡◌}
 use Rattle.account_lock.specs.Passes.{IsOf, view}
 use Rattle.lock_bench.proofs.turns.workers.Given as goal
 
 abbrev pub invariant-loop : goal.invariant-loop
 invariant-loop l = IsOf l.lock l.first × ((view l.first).number ≡ 0)
-RATTLE
+PROOF
+build_program lock_bench
+
 echo "$(nproc) processors"
-cd "$work/crates/lock_bench"
-rt run -- "$turns" >"$work/output" 2>&1 || { cat "$work/output"; exit 1; }
-grep ' threads: ' "$work/output"
+"$work/lock_bench" "$turns"
