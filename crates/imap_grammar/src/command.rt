@@ -40,8 +40,10 @@ pub enum CommandFault {
 /// `NotBuilt` where the text is none of the commands GETQUOTA, GETQUOTAROOT, SETQUOTA and LOGOUT, or names a root or a
 /// mailbox by a literal; or `NoMemory`.
 pub fn read_command(alloc: Global, text: &[u8], login: bool) -> Result<Command, CommandFault>
-    ensures command { IfOk result (λ command. (tag : List ℕ) × IsCommand login text.now (record { tag = tag; command = command })) }
-    ensures not_built { IfErr result (λ fault. fault ≡ CommandFault.NotBuilt → (tagged : Tagged) → IsCommand login text.now tagged → ⊥) }
+    ensures command { IfOk result (λ command. (tag : List ℕ) × IsCommand login text.now
+        (record { tag = tag; command = command })) }
+    ensures not_built { IfErr result (λ fault. fault ≡ CommandFault.NotBuilt
+        → (tagged : Tagged) → IsCommand login text.now tagged → ⊥) }
 {
     match read_tagged(alloc, text, login) {
         Ok((command, _)) => Ok(command),
@@ -60,8 +62,18 @@ pub fn read_tagged(
     login: bool,
 ) -> Result<(Command, usize), CommandFault>
     ensures short { IfOk result (λ x. x.1 < length text.now) }
-    ensures command { IfOk result (λ x. command_in login text.now ≡ Some (record { tag = take x.1 text.now; command = x.0 })) }
-    ensures not_built { IfErr result (λ fault. fault ≡ CommandFault.NotBuilt → command_in login text.now ≡ None) }
+
+    // The text is this command of the grammar, or it is none.
+    ensures command { IfOk result (λ x. IsCommand login text.now
+        (record { tag = take x.1 text.now; command = x.0 })) }
+    ensures not_built { IfErr result (λ fault. fault ≡ CommandFault.NotBuilt
+        → (tagged : Tagged) → IsCommand login text.now tagged → ⊥) }
+
+    // The same by the reading.
+    ensures read { IfOk result (λ x. command_in login text.now
+        ≡ Some (record { tag = take x.1 text.now; command = x.0 })) }
+    ensures not_read { IfErr result (λ fault. fault ≡ CommandFault.NotBuilt
+        → command_in login text.now ≡ None) }
 {
     match tagged(alloc, text, login) {
         Ok((tag, command, rest)) if rest.is_empty() => Ok((command, tag.len())),

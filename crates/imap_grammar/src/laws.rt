@@ -1,4 +1,5 @@
-ghost use Rattle.std.specs.Prelude.{◌≡◌, ℕ, Bool, IsTrue, List};
+ghost use Rattle.std.specs.Prelude.{◌≡◌, ◌↔◌, ℕ, Bool, IsTrue, List, Some};
+ghost use Rattle.imap_grammar.specs.Commands.{command_in};
 ghost use Rattle.imap_grammar.specs.Grammar.{Tagged, IsAstring, IsCommand};
 ghost use Rattle.imap_grammar.specs.Printing.{is_printable_text, printed};
 
@@ -10,4 +11,10 @@ pub fn a_printed_name_reads_back()
 /// A law: a text is one command at most.
 pub fn each_text_is_one_command()
     ensures { (login : Bool) (text : List ℕ) (one other : Tagged) → IsCommand login text one → IsCommand login text other → one ≡ other }
+{}
+
+/// A law: the reading of a text gives exactly the command that the grammar says it is.
+pub fn a_reading_is_the_grammar()
+    ensures { (login : Bool) (text : List ℕ) (tagged : Tagged)
+        → (command_in login text ≡ Some tagged) ↔ IsCommand login text tagged }
 {}
