@@ -18,10 +18,10 @@ use Rattle.account_core.specs.declared.calls.Call.TheVariants.{Deliver}
 use Rattle.account_core.specs.declared.calls.Entry.{Entry}
 use Rattle.account_core.specs.declared.calls.Reply.{Reply}
 use Rattle.account_core.specs.declared.calls.Reply.TheVariants.{Delivered, NoMailbox, Fits}
-use Rattle.account_core.specs.Account.{Account, Message, Opened, usage}
+use Rattle.account_core.specs.Account.{Account, Message, usage}
 use Rattle.account_core.specs.Machine.{usages, over_in, over_or, delivered_message, delivered_after}
-use Rattle.account_core.specs.History.{reply, entry_of}
-use Rattle.account_core.specs.Legality.{AreWithin, account_at, FitsIn, NoneBroken, IsOver, OverWhereNoFit}
+use Rattle.account_core.specs.History.{replay, reply, entry_of}
+use Rattle.account_core.specs.Legality.{AreWithin, FitsIn, NoneBroken, IsOver, OverWhereNoFit}
 use Rattle.account_core.proofs.Replaying.{replay_more}
 use Rattle.account_core.proofs.MessageSums.{counted_push}
 
@@ -91,15 +91,15 @@ within_from limits limits' had had' has octets same kept more fits =
     let parts = and_parts (allows limits.octets (had'.octets + octets)) (allows limits.count (had'.count + 1)) both in
     record { octets = rw (kept, more) parts.0; count = rw (kept, more) parts.1 }
 
-module _ (opened : Opened) (history : List Entry) (caller : ℕ) (mailbox : List ℕ) (octets : ℕ) (flags : Flags) where
+module _ (roots : List RootSpec) (opening : Account) (history : List Entry) (caller : ℕ) (mailbox : List ℕ) (octets : ℕ) (flags : Flags) where
   abbrev before : Account
-  before = account_at opened history
+  before = replay roots opening history
 
   abbrev after : Account
-  after = account_at opened (history ++ entry_of caller (Deliver mailbox octets flags) false ∷ [])
+  after = replay roots opening (history ++ entry_of caller (Deliver mailbox octets flags) false ∷ [])
 
   abbrev place : Option (ℕ × Resource)
-  place = over_in opened.roots before mailbox octets
+  place = over_in roots before mailbox octets
 
   -- what an accepted delivery was answered by
   accepted : (number : ℕ) (b : Bool) (o : Option (ℕ × Resource)) → cond b (over_or o (Delivered (before.deliveries + 1))) NoMailbox ≡ Delivered number → (b ≡ true) × (o ≡ None) × (number ≡ before.deliveries + 1)
@@ -107,38 +107,38 @@ module _ (opened : Opened) (history : List Entry) (caller : ℕ) (mailbox : List
   accepted number true (Some at) e = absurd (cc)
   accepted number false o e = absurd (cc)
 
-  after_is : (number : ℕ) → reply opened history (Deliver mailbox octets flags) ≡ Delivered number
+  after_is : (number : ℕ) → reply roots opening history (Deliver mailbox octets flags) ≡ Delivered number
       → after ≡ record before { messages = before.messages ++ delivered_message before.epoch number mailbox octets flags ∷ []; deliveries = number; generation = before.generation + 1 }
   after_is number given =
-      replay_more opened.roots opened.account history (entry_of caller (Deliver mailbox octets flags) false)
+      replay_more roots opening history (entry_of caller (Deliver mailbox octets flags) false)
       ∙ ap (λ r. delivered_after before mailbox octets flags r) given
 
-  root_within : (number root : ℕ) → reply opened history (Deliver mailbox octets flags) ≡ Delivered number → governs_at opened.roots root mailbox ≡ true
-      → (inside : root < length opened.roots)
-      → AreWithin (limits_at after.limits root) (totals_at (usages opened.roots after) root)
+  root_within : (number root : ℕ) → reply roots opening history (Deliver mailbox octets flags) ≡ Delivered number → governs_at roots root mailbox ≡ true
+      → (inside : root < length roots)
+      → AreWithin (limits_at after.limits root) (totals_at (usages roots after) root)
   root_within number root given governed inside =
       let d : RootSpec = record { name = []; prefix = None } in
       let message = delivered_message before.epoch number mailbox octets flags in
-      let spec = get_or opened.roots root d in
+      let spec = get_or roots root d in
       let none = (accepted number _ _ given).1 in
-      let each = fits_all before.limits (usages opened.roots before) (governing opened.roots mailbox) octets none in
-      let fits = All-contains (λ r. fits_root (limits_at before.limits r) (totals_at (usages opened.roots before) r) octets ≡ true) (governing opened.roots mailbox) root each ((governing_members opened.roots mailbox root).1 governed) in
-      let had = totals_at-usages opened.roots before root d inside in
-      let has : totals_at (usages opened.roots after) root ≡ record { octets = (usage spec before).octets + octets; count = (usage spec before).count + 1 } =
-      totals_at-usages opened.roots after root d inside ∙ ap (λ (a : Account). usage spec a) (after_is number given)
-      ∙ usage_push spec before message (sym (governs_at_get_or opened.roots mailbox root d inside) ∙ governed) in
+      let each = fits_all before.limits (usages roots before) (governing roots mailbox) octets none in
+      let fits = All-contains (λ r. fits_root (limits_at before.limits r) (totals_at (usages roots before) r) octets ≡ true) (governing roots mailbox) root each ((governing_members roots mailbox root).1 governed) in
+      let had = totals_at-usages roots before root d inside in
+      let has : totals_at (usages roots after) root ≡ record { octets = (usage spec before).octets + octets; count = (usage spec before).count + 1 } =
+      totals_at-usages roots after root d inside ∙ ap (λ (a : Account). usage spec a) (after_is number given)
+      ∙ usage_push spec before message (sym (governs_at_get_or roots mailbox root d inside) ∙ governed) in
       let kept : after.limits ≡ before.limits = ap (λ (a : Account). a.limits) (after_is number given) in
       within_from _ _ _ _ _ octets had (ap (λ ls. limits_at ls root) kept) has fits
 
-pub inside_of : (opened : Opened) (mailbox : List ℕ) (root : ℕ) → governs_at opened.roots root mailbox ≡ true → root < length opened.roots
-inside_of opened mailbox root governed = elim (cases_lt root (length opened.roots)) [
+pub inside_of : (roots : List RootSpec) (mailbox : List ℕ) (root : ℕ) → governs_at roots root mailbox ≡ true → root < length roots
+inside_of roots mailbox root governed = elim (cases_lt root (length roots)) [
   | inl inside ↦ inside
-  | inr past ↦ absurd (false≢true (sym (ap (λ o. option_map_or (λ spec. governs spec mailbox) o false) (slice_get_past opened.roots root past)) ∙ governed))
+  | inr past ↦ absurd (false≢true (sym (ap (λ o. option_map_or (λ spec. governs spec mailbox) o false) (slice_get_past roots root past)) ∙ governed))
 ]
 
 pub none_broken : NoneBroken
-none_broken opened history caller mailbox octets flags number given root governed =
-    root_within opened history caller mailbox octets flags number root given governed (inside_of opened mailbox root governed)
+none_broken roots opening history caller mailbox octets flags number given root governed =
+    root_within roots opening history caller mailbox octets flags number root given governed (inside_of roots mailbox root governed)
 
 pub over_is : (o : Option (ℕ × Resource)) (given : Reply) → (IsOver given → ⊥) → (IsOver (over_or o given) ↔ (o ≡ None → ⊥))
 over_is None given other = (λ is. absurd (other is), λ no. absurd (no refl))
@@ -150,19 +150,18 @@ not_delivered number (root, resource, e) = cc
 not_fits : IsOver Fits → ⊥
 not_fits (root, resource, e) = cc
 
-fits_or_not : (opened : Opened) (history : List Entry) (mailbox : List ℕ) (octets : ℕ) (given : Reply) → (IsOver given → ⊥)
-    → (IsOver (over_or (over_in opened.roots (account_at opened history) mailbox octets) given) ↔ (FitsIn opened history mailbox octets → ⊥))
-fits_or_not opened history mailbox octets given other =
-    let account = account_at opened history in
-    let both = over_is (over_in opened.roots account mailbox octets) given other in
-    let totals = usages opened.roots account in
-    let roots = governing opened.roots mailbox in
-    (λ is fits. both.0 is (none_over account.limits totals roots octets fits), λ no. both.1 (λ none. no (fits_all account.limits totals roots octets none)))
+fits_or_not : (roots : List RootSpec) (account : Account) (mailbox : List ℕ) (octets : ℕ) (given : Reply) → (IsOver given → ⊥)
+    → (IsOver (over_or (over_in roots account mailbox octets) given) ↔ (FitsIn roots account mailbox octets → ⊥))
+fits_or_not roots account mailbox octets given other =
+    let both = over_is (over_in roots account mailbox octets) given other in
+    let totals = usages roots account in
+    let numbers = governing roots mailbox in
+    (λ is fits. both.0 is (none_over account.limits totals numbers octets fits), λ no. both.1 (λ none. no (fits_all account.limits totals numbers octets none)))
 
 pub over_where_no_fit : OverWhereNoFit
-over_where_no_fit opened history octets = (
-  λ mailbox flags there. let account = account_at opened history in
-      let both = fits_or_not opened history mailbox octets (Delivered (account.deliveries + 1)) (not_delivered _) in
+over_where_no_fit roots opening history octets = (
+  λ mailbox flags there. let account = replay roots opening history in
+      let both = fits_or_not roots account mailbox octets (Delivered (account.deliveries + 1)) (not_delivered _) in
       rw there both,
-  fits_or_not opened history (codes "INBOX") octets Fits not_fits,
+  fits_or_not roots (replay roots opening history) (codes "INBOX") octets Fits not_fits,
 )

@@ -12,13 +12,12 @@ use Rattle.account_core.specs.declared.calls.Reply.{Reply}
 use Rattle.account_core.specs.declared.calls.Reply.TheVariants.{NoMailbox, Fits, Delivered, Removed, Marked, NameTaken, Moved, Changed, Installed}
 use Rattle.account_core.specs.declared.calls.RootRow.{RootRow}
 use Rattle.quota_units.specs.Limiting.{LimitNumbers}
-use Rattle.account_core.specs.Account.{Account, Message, Opened, usage}
+use Rattle.account_core.specs.Account.{Account, Message, usage}
 use Rattle.account_core.specs.Messages.{is_message, named_message, changed, with_flags}
 use Rattle.account_core.specs.Machine.{has_mailbox, if_message, usages, over_of, over_in, over_or, named, quota_reply, limits_reply, reply_of, step, delivered_after, removed_after, marked_after, moved_after, moving_reply}
 use Rattle.account_core.specs.Scanning.{status_of, part_of}
 use Rattle.account_core.specs.History.{replay, account_after}
-use Rattle.account_core.specs.Generations.{is_change, changes, changes_from, generation, unflagged, GenerationIsCounted, EqualGenerationEqualUsage}
-use Rattle.account_core.specs.Legality.{account_at}
+use Rattle.account_core.specs.Generations.{is_change, changes, generation, unflagged, GenerationIsCounted, EqualGenerationEqualUsage}
 use Rattle.account_core.proofs.Admitting.{same_totals}
 
 -- the mark of a message leaves all but its flags
@@ -147,7 +146,7 @@ after_messages roots account call true none = refl
 after_messages roots account call false none = (call_counts roots account call).messages_are none
 
 -- the account's number of changes, after these entries
-pub generation_kept : (roots : List RootSpec) (account : Account) (entries : List Entry) → (replay roots account entries).generation ≡ account.generation + changes_from roots account entries
+pub generation_kept : (roots : List RootSpec) (account : Account) (entries : List Entry) → (replay roots account entries).generation ≡ account.generation + generation roots account entries
 generation_kept roots account [] = sym (add-zero account.generation)
 generation_kept roots account (entry ∷ entries) =
     let one = after_generation roots account entry.call entry.fault in
@@ -159,11 +158,11 @@ no_more true n none = absurd (omega arith)
 no_more false n none = (refl, omega arith)
 
 -- without a change the messages stay, but for flags
-pub messages_kept : (roots : List RootSpec) (account : Account) (entries : List Entry) → changes_from roots account entries ≡ 0
+pub messages_kept : (roots : List RootSpec) (account : Account) (entries : List Entry) → generation roots account entries ≡ 0
     → map unflagged (replay roots account entries).messages ≡ map unflagged account.messages
 messages_kept roots account [] none = refl
 messages_kept roots account (entry ∷ entries) none =
-    let parts = no_more (changes roots account entry) (changes_from roots (account_after roots account entry) entries) none in
+    let parts = no_more (changes roots account entry) (generation roots (account_after roots account entry) entries) none in
     messages_kept roots (account_after roots account entry) entries parts.1 ∙ after_messages roots account entry.call entry.fault parts.0
 
 replay_both : (roots : List RootSpec) (account : Account) (entries more : List Entry) → replay roots account (entries ++ more) ≡ replay roots (replay roots account entries) more
@@ -171,26 +170,26 @@ replay_both roots account [] more = refl
 replay_both roots account (entry ∷ entries) more = replay_both roots (account_after roots account entry) entries more
 
 changes_both : (roots : List RootSpec) (account : Account) (entries more : List Entry)
-    → changes_from roots account (entries ++ more) ≡ changes_from roots account entries + changes_from roots (replay roots account entries) more
-changes_both roots account [] more = sym (zero-add (changes_from roots account more))
+    → generation roots account (entries ++ more) ≡ generation roots account entries + generation roots (replay roots account entries) more
+changes_both roots account [] more = sym (zero-add (generation roots account more))
 changes_both roots account (entry ∷ entries) more = let rest = changes_both roots (account_after roots account entry) entries more in omega arith
 
 -- one entry more
-pub generation_push : (opened : Opened) (history : List Entry) (entry : Entry)
-    → generation opened (history ++ entry ∷ []) ≡ generation opened history + cond (changes opened.roots (account_at opened history) entry) 1 0
-generation_push opened history entry =
-    changes_both opened.roots opened.account history (entry ∷ [])
-    ∙ ap (λ n. generation opened history + n) (add-zero (cond (changes opened.roots (account_at opened history) entry) 1 0))
+pub generation_push : (roots : List RootSpec) (opening : Account) (history : List Entry) (entry : Entry)
+    → generation roots opening (history ++ entry ∷ []) ≡ generation roots opening history + cond (changes roots (replay roots opening history) entry) 1 0
+generation_push roots opening history entry =
+    changes_both roots opening history (entry ∷ [])
+    ∙ ap (λ n. generation roots opening history + n) (add-zero (cond (changes roots (replay roots opening history) entry) 1 0))
 
 few_step : (b : Bool) (n entries : ℕ) → n ≤ entries → cond b 1 0 + n ≤ entries + 1
 few_step true n entries few = omega arith
 few_step false n entries few = omega arith
 
 -- no more changes than entries
-pub changes_few : (roots : List RootSpec) (account : Account) (entries : List Entry) → changes_from roots account entries ≤ length entries
+pub changes_few : (roots : List RootSpec) (account : Account) (entries : List Entry) → generation roots account entries ≤ length entries
 changes_few roots account [] = omega arith
 changes_few roots account (entry ∷ entries) =
-    let one = few_step (changes roots account entry) (changes_from roots (account_after roots account entry) entries) (length entries) (changes_few roots (account_after roots account entry) entries) in
+    let one = few_step (changes roots account entry) (generation roots (account_after roots account entry) entries) (length entries) (changes_few roots (account_after roots account entry) entries) in
     omega arith
 
 sum_unflagged : (f : List ℕ × List ℕ × ℕ → ℕ) (messages : List Message) → sum_by f (map unflagged messages) ≡ sum_by (λ (m : Message). f (unflagged m)) messages
@@ -208,18 +207,18 @@ usage_same root account other same =
     same_totals (counted_same (λ k. cond (governs root k.0) k.2 0) account.messages other.messages same) (counted_same (λ k. cond (governs root k.0) 1 0) account.messages other.messages same)
 
 pub generation_is_counted : GenerationIsCounted
-generation_is_counted opened history = generation_kept opened.roots opened.account history
+generation_is_counted roots opening history = generation_kept roots opening history
 
-same_messages : (roots : List RootSpec) (account : Account) (earlier rest later : List Entry) → earlier ++ rest ≡ later → changes_from roots account earlier ≡ changes_from roots account later
+same_messages : (roots : List RootSpec) (account : Account) (earlier rest later : List Entry) → earlier ++ rest ≡ later → generation roots account earlier ≡ generation roots account later
     → map unflagged (replay roots account earlier).messages ≡ map unflagged (replay roots account later).messages
 same_messages roots account earlier rest later e same =
     let both = changes_both roots account earlier rest in
-    let whole : changes_from roots account (earlier ++ rest) ≡ changes_from roots account later = ap (changes_from roots account) e in
-    let none : changes_from roots (replay roots account earlier) rest ≡ 0 = omega arith in
+    let whole : generation roots account (earlier ++ rest) ≡ generation roots account later = ap (generation roots account) e in
+    let none : generation roots (replay roots account earlier) rest ≡ 0 = omega arith in
     sym (messages_kept roots (replay roots account earlier) rest none)
     ∙ ap (λ (a : Account). map unflagged a.messages) (sym (replay_both roots account earlier rest) ∙ ap (replay roots account) e)
 
 pub equal_generation_equal_usage : EqualGenerationEqualUsage
-equal_generation_equal_usage opened earlier later (rest, e) same =
-    let agree = same_messages opened.roots opened.account earlier rest later e same in
-    (agree, λ root. usage_same root (replay opened.roots opened.account earlier) (replay opened.roots opened.account later) agree)
+equal_generation_equal_usage roots opening earlier later (rest, e) same =
+    let agree = same_messages roots opening earlier rest later e same in
+    (agree, λ root. usage_same root (replay roots opening earlier) (replay roots opening later) agree)

@@ -45,30 +45,30 @@ begins_shorter (x ∷ xs) (y ∷ ys) (z ∷ zs) (r, e) (s, f) le =
     let more = begins_shorter xs ys zs (r, tail) (s, tail') (omega arith) in
     (more.0, λ k. head k ∷ more.1 k)
 
-own : (n : ℕ) (e : Entry) (es : List Entry) → e.caller ≡ n → calls_by n (e ∷ es) ≡ e ∷ calls_by n es
-own n e es is = rw (eq-eqb e.caller n is)
+pub first_own : (n : ℕ) (e : Entry) (es : List Entry) → e.caller ≡ n → calls_by n (e ∷ es) ≡ e ∷ calls_by n es
+first_own n e es is = rw (eq-eqb e.caller n is)
 
-other : (n : ℕ) (e : Entry) (es : List Entry) → e.caller ≢ n → calls_by n (e ∷ es) ≡ calls_by n es
-other n e es is = rw (ne_eqb e.caller n is)
+pub first_other : (n : ℕ) (e : Entry) (es : List Entry) → e.caller ≢ n → calls_by n (e ∷ es) ≡ calls_by n es
+first_other n e es is = rw (ne_eqb e.caller n is)
 
 pub calls_by_both : (n : ℕ) (xs ys : List Entry) → calls_by n (xs ++ ys) ≡ calls_by n xs ++ calls_by n ys
 calls_by_both n [] ys = refl
 calls_by_both n (x ∷ xs) ys = dite (ℕ_discrete x.caller n)
-    (λ is. own n x (xs ++ ys) is ∙ (ap (λ (l : List Entry). x ∷ l) (calls_by_both n xs ys) ∙ ap (λ (l : List Entry). l ++ calls_by n ys) (sym (own n x xs is))))
-    (λ not. other n x (xs ++ ys) not ∙ (calls_by_both n xs ys ∙ ap (λ (l : List Entry). l ++ calls_by n ys) (sym (other n x xs not))))
+    (λ is. first_own n x (xs ++ ys) is ∙ (ap (λ (l : List Entry). x ∷ l) (calls_by_both n xs ys) ∙ ap (λ (l : List Entry). l ++ calls_by n ys) (sym (first_own n x xs is))))
+    (λ not. first_other n x (xs ++ ys) not ∙ (calls_by_both n xs ys ∙ ap (λ (l : List Entry). l ++ calls_by n ys) (sym (first_other n x xs not))))
 
 -- one entry more, of the caller
 pub calls_by_own : (n : ℕ) (xs : List Entry) (e : Entry) → e.caller ≡ n → calls_by n (xs ++ e ∷ []) ≡ calls_by n xs ++ e ∷ []
-calls_by_own n xs e is = calls_by_both n xs (e ∷ []) ∙ ap (λ (l : List Entry). calls_by n xs ++ l) (own n e [] is)
+calls_by_own n xs e is = calls_by_both n xs (e ∷ []) ∙ ap (λ (l : List Entry). calls_by n xs ++ l) (first_own n e [] is)
 
 -- one entry more, of another
 pub calls_by_other : (n : ℕ) (xs : List Entry) (e : Entry) → e.caller ≢ n → calls_by n (xs ++ e ∷ []) ≡ calls_by n xs
-calls_by_other n xs e not = calls_by_both n xs (e ∷ []) ∙ (ap (λ (l : List Entry). calls_by n xs ++ l) (other n e [] not) ∙ append-nil (calls_by n xs))
+calls_by_other n xs e not = calls_by_both n xs (e ∷ []) ∙ (ap (λ (l : List Entry). calls_by n xs ++ l) (first_other n e [] not) ∙ append-nil (calls_by n xs))
 
 -- a caller that is not yet made has no entry
 pub calls_by_nobody : (n k : ℕ) (xs : List Entry) → CallersBelow k xs → k ≤ n → calls_by n xs ≡ []
 calls_by_nobody n k [] below le = refl
-calls_by_nobody n k (x ∷ xs) below le = let b : x.caller < k = below.0 in other n x xs (λ e. omega arith) ∙ calls_by_nobody n k xs below.1 le
+calls_by_nobody n k (x ∷ xs) below le = let b : x.caller < k = below.0 in first_other n x xs (λ e. omega arith) ∙ calls_by_nobody n k xs below.1 le
 
 pub callers_below_more : (k : ℕ) (xs : List Entry) (e : Entry) → CallersBelow k xs → e.caller < k → CallersBelow k (xs ++ e ∷ [])
 callers_below_more k [] e below b = (b, tt)

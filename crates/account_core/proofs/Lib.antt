@@ -1,7 +1,7 @@
 pub mod Replaying
-pub mod Logging
 pub mod DeliveredLemmas
 pub mod Histories
+pub mod Logging
 pub mod Admitting
 pub mod MessageSums
 pub mod Generations

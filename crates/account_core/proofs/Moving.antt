@@ -12,11 +12,11 @@ use Rattle.account_core.specs.declared.calls.Call.TheVariants.{Move}
 use Rattle.account_core.specs.declared.calls.Entry.{Entry}
 use Rattle.account_core.specs.declared.calls.Reply.{Reply}
 use Rattle.account_core.specs.declared.calls.Reply.TheVariants.{NoMailbox, NoMessage, NameTaken, Moved}
-use Rattle.account_core.specs.Account.{Account, Message, Opened, counted, usage}
+use Rattle.account_core.specs.Account.{Account, Message, counted, usage}
 use Rattle.account_core.specs.Messages.{named_message, changed, with_mailbox}
 use Rattle.account_core.specs.Machine.{usages, over_of, over_or, moving_reply, placing_reply, move_reply, moved_after, has_mailbox}
-use Rattle.account_core.specs.History.{reply, entry_of}
-use Rattle.account_core.specs.Legality.{AreWithin, account_at, IsOver, MayMove, NoneBrokenByMoves, MoveOverWhereNoFit}
+use Rattle.account_core.specs.History.{replay, reply, entry_of}
+use Rattle.account_core.specs.Legality.{AreWithin, IsOver, MayMove, NoneBrokenByMoves, MoveOverWhereNoFit}
 use Rattle.account_core.proofs.Replaying.{replay_more}
 use Rattle.account_core.proofs.MessageSums.{counted_moved}
 use Rattle.account_core.proofs.Admitting.{fits_all, none_over, totals_at-usages, same_totals, within_from, inside_of, over_is}
@@ -81,20 +81,20 @@ move_is roots account from base to message may =
     ∙ ap (λ (o : Option Message). cond (is_some o) NameTaken (over_or (over_of roots account (gaining roots from to) message.octets) Moved)) may.free
 
 pub move_over_where_no_fit : MoveOverWhereNoFit
-move_over_where_no_fit opened history from base to =
-    let account = account_at opened history in
-    let gains = gaining opened.roots from to in (
-      λ over. let seen = looked_at IsOver not_mailbox not_no_message not_name_taken opened.roots account from base to over in
+move_over_where_no_fit roots opening history from base to =
+    let account = replay roots opening history in
+    let gains = gaining roots from to in (
+      λ over. let seen = looked_at IsOver not_mailbox not_no_message not_name_taken roots account from base to over in
           let message = seen.0 in
           let apart = another (bytes_eq from to) _ seen.4 in
-          let free = not_taken IsOver not_mailbox not_no_message not_name_taken opened.roots account from base to (named_message to base account.messages) _ apart.1 in
-          let both = over_is (over_of opened.roots account gains message.octets) Moved not_moved in (
+          let free = not_taken IsOver not_mailbox not_no_message not_name_taken roots account from base to (named_message to base account.messages) _ apart.1 in
+          let both = over_is (over_of roots account gains message.octets) Moved not_moved in (
             message,
             record { source = seen.1; target = seen.2; there = seen.3; apart = differ from to apart.0; free = free.0 },
-            λ fits. both.0 free.1 (none_over account.limits (usages opened.roots account) gains message.octets fits),
+            λ fits. both.0 free.1 (none_over account.limits (usages roots account) gains message.octets fits),
           ),
-      λ (message, may, none). let both = over_is (over_of opened.roots account gains message.octets) Moved not_moved in
-          subst IsOver (sym (move_is opened.roots account from base to message may)) (both.1 (λ first. none (fits_all account.limits (usages opened.roots account) gains message.octets first))),
+      λ (message, may, none). let both = over_is (over_of roots account gains message.octets) Moved not_moved in
+          subst IsOver (sym (move_is roots account from base to message may)) (both.1 (λ first. none (fits_all account.limits (usages roots account) gains message.octets first))),
     )
 
 into : (x y w w' : ℕ) (source target : Bool) → x + cond source w 0 ≡ y + cond target w' 0 → source ≡ false → target ≡ true → x ≡ y + w'
@@ -119,57 +119,57 @@ placed_is : (same : Bool) (given : Reply) → same ≡ false → cond same Moved
 placed_is true given apart e = absurd (cc)
 placed_is false given apart e = e
 
-module _ (opened : Opened) (history : List Entry) (caller : ℕ) (from base to : List ℕ) where
+module _ (roots : List RootSpec) (opening : Account) (history : List Entry) (caller : ℕ) (from base to : List ℕ) where
   abbrev before : Account
-  before = account_at opened history
+  before = replay roots opening history
 
   abbrev after : Account
-  after = account_at opened (history ++ entry_of caller (Move from base to) false ∷ [])
+  after = replay roots opening (history ++ entry_of caller (Move from base to) false ∷ [])
 
   abbrev IsMoved : Reply → Type 0
   IsMoved given = given ≡ Moved
 
-  apart_of : (root : ℕ) → governs_at opened.roots root to ≡ true → governs_at opened.roots root from ≡ false → bytes_eq from to ≡ false
-  apart_of root governed free = differ_back from to (λ e. false≢true (sym free ∙ ap (governs_at opened.roots root) e ∙ governed))
+  apart_of : (root : ℕ) → governs_at roots root to ≡ true → governs_at roots root from ≡ false → bytes_eq from to ≡ false
+  apart_of root governed free = differ_back from to (λ e. false≢true (sym free ∙ ap (governs_at roots root) e ∙ governed))
 
-  after_is : reply opened history (Move from base to) ≡ Moved → bytes_eq from to ≡ false
+  after_is : reply roots opening history (Move from base to) ≡ Moved → bytes_eq from to ≡ false
       → after ≡ record before { messages = changed from base (with_mailbox to) before.messages; generation = before.generation + 1 }
   after_is given apart =
-      replay_more opened.roots opened.account history (entry_of caller (Move from base to) false)
+      replay_more roots opening history (entry_of caller (Move from base to) false)
       ∙ ap (λ r. moved_after before from base to r) given
       ∙ ap (λ b. cond b before (record before { messages = changed from base (with_mailbox to) before.messages; generation = before.generation + 1 })) apart
 
   -- the message of a move that was made, and that it fits
-  moved_fits : reply opened history (Move from base to) ≡ Moved → bytes_eq from to ≡ false
-      → (message : Message) × (named_message from base before.messages ≡ Some message) × (over_of opened.roots before (gaining opened.roots from to) message.octets ≡ None)
+  moved_fits : reply roots opening history (Move from base to) ≡ Moved → bytes_eq from to ≡ false
+      → (message : Message) × (named_message from base before.messages ≡ Some message) × (over_of roots before (gaining roots from to) message.octets ≡ None)
   moved_fits given apart =
-      let seen = looked_at IsMoved (λ e. cc) (λ e. cc) (λ e. cc) opened.roots before from base to given in
-      let over = over_of opened.roots before (gaining opened.roots from to) seen.0.octets in
-      let placed = placed_is (bytes_eq from to) (placing_reply opened.roots before from base to seen.0) apart seen.4 in
-      let fitting = not_taken IsMoved (λ e. cc) (λ e. cc) (λ e. cc) opened.roots before from base to (named_message to base before.messages) (over_or over Moved) placed in
+      let seen = looked_at IsMoved (λ e. cc) (λ e. cc) (λ e. cc) roots before from base to given in
+      let over = over_of roots before (gaining roots from to) seen.0.octets in
+      let placed = placed_is (bytes_eq from to) (placing_reply roots before from base to seen.0) apart seen.4 in
+      let fitting = not_taken IsMoved (λ e. cc) (λ e. cc) (λ e. cc) roots before from base to (named_message to base before.messages) (over_or over Moved) placed in
       (seen.0, seen.3, none_first over fitting.1)
 
-  root_within : (root : ℕ) → reply opened history (Move from base to) ≡ Moved → governs_at opened.roots root to ≡ true → governs_at opened.roots root from ≡ false
-      → (inside : root < length opened.roots)
-      → AreWithin (limits_at after.limits root) (totals_at (usages opened.roots after) root)
+  root_within : (root : ℕ) → reply roots opening history (Move from base to) ≡ Moved → governs_at roots root to ≡ true → governs_at roots root from ≡ false
+      → (inside : root < length roots)
+      → AreWithin (limits_at after.limits root) (totals_at (usages roots after) root)
   root_within root given governed free inside =
       let d : RootSpec = record { name = []; prefix = None } in
-      let spec = get_or opened.roots root d in
+      let spec = get_or roots root d in
       let apart = apart_of root governed free in
       let moved = moved_fits given apart in
       let message = moved.0 in
-      let gains = gaining opened.roots from to in
-      let each = fits_all before.limits (usages opened.roots before) gains message.octets moved.2 in
-      let fits = All-contains (λ r. fits_root (limits_at before.limits r) (totals_at (usages opened.roots before) r) message.octets ≡ true) gains root each ((gaining_members opened.roots from to root).1 (governed, free)) in
-      let had = totals_at-usages opened.roots before root d inside in
+      let gains = gaining roots from to in
+      let each = fits_all before.limits (usages roots before) gains message.octets moved.2 in
+      let fits = All-contains (λ r. fits_root (limits_at before.limits r) (totals_at (usages roots before) r) message.octets ≡ true) gains root each ((gaining_members roots from to root).1 (governed, free)) in
+      let had = totals_at-usages roots before root d inside in
       let now_is = after_is given apart in
-      let has : totals_at (usages opened.roots after) root ≡ record { octets = (usage spec before).octets + message.octets; count = (usage spec before).count + 1 } =
-      totals_at-usages opened.roots after root d inside
+      let has : totals_at (usages roots after) root ≡ record { octets = (usage spec before).octets + message.octets; count = (usage spec before).count + 1 } =
+      totals_at-usages roots after root d inside
       ∙ usage_moved spec before after message from base to (ap (λ (a : Account). a.messages) now_is) moved.1
-      (sym (governs_at_get_or opened.roots from root d inside) ∙ free) (sym (governs_at_get_or opened.roots to root d inside) ∙ governed) in
+      (sym (governs_at_get_or roots from root d inside) ∙ free) (sym (governs_at_get_or roots to root d inside) ∙ governed) in
       let kept : after.limits ≡ before.limits = ap (λ (a : Account). a.limits) now_is in
       within_from _ _ _ _ _ message.octets had (ap (λ ls. limits_at ls root) kept) has fits
 
 pub none_broken_by_moves : NoneBrokenByMoves
-none_broken_by_moves opened history caller from base to given root governed free =
-    root_within opened history caller from base to root given governed free (inside_of opened to root governed)
+none_broken_by_moves roots opening history caller from base to given root governed free =
+    root_within roots opening history caller from base to root given governed free (inside_of roots to root governed)

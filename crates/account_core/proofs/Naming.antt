@@ -158,4 +158,4 @@ replay_named roots account (entry ∷ history) small is =
     replay_named roots (account_after roots account entry) history (omega (arith, one.few)) one.named
 
 pub names_stay_apart : NamesStayApart
-names_stay_apart opened history small apart unused = (replay_named opened.roots opened.account history small (record { apart = apart; unused = unused })).apart
+names_stay_apart roots opening history small apart unused = (replay_named roots opening history small (record { apart = apart; unused = unused })).apart

@@ -212,8 +212,8 @@ module _ (root : RootSpec) (weight : Message → ℕ) where
       omega arith
 
 pub whole_scan_is_usage : WholeScanIsUsage
-whole_scan_is_usage opened history different housed root =
-    let account = replay opened.roots opened.account history in
-    let kept = replay_housed opened.roots opened.account history housed in
+whole_scan_is_usage roots opening history different housed root =
+    let account = replay roots opening history in
+    let kept = replay_housed roots opening history housed in
     let apart : are_different account.mailboxes ≡ true = subst (λ m. are_different m ≡ true) (sym kept.mailboxes) different in
     same_totals (parts_are_counted root (λ m. m.octets) account.mailboxes account.messages apart kept.housed) (parts_are_counted root (λ m. 1) account.mailboxes account.messages apart kept.housed)

@@ -24,12 +24,6 @@ pub record Account : Type 0 where
   -- how many deliveries, removals and moves between two mailboxes were made since
   pub generation : ℕ
 
--- what an account was opened with: its roots, the most entries of its history, and itself
-pub record Opened : Type 0 where
-  pub roots : List RootSpec
-  pub journal : ℕ
-  pub account : Account
-
 -- a number of each message that the root counts, added up
 abbrev pub counted : RootSpec → (Message → ℕ) → List Message → ℕ
 counted root weight messages = sum_by (λ m. if governs root m.mailbox then weight m else 0) messages

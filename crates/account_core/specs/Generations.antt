@@ -6,11 +6,10 @@ use Rattle.account_core.specs.declared.calls.Call.TheVariants.{Move}
 use Rattle.account_core.specs.declared.calls.Entry.{Entry}
 use Rattle.account_core.specs.declared.calls.Reply.{Reply}
 use Rattle.account_core.specs.declared.calls.Reply.TheVariants.{Delivered, Removed, Moved}
-use Rattle.account_core.specs.Account.{Account, Message, Opened, usage}
+use Rattle.account_core.specs.Account.{Account, Message, usage}
 use Rattle.account_core.specs.Machine.{reply_of}
-use Rattle.account_core.specs.History.{account_after}
+use Rattle.account_core.specs.History.{account_after, replay}
 use Rattle.account_core.specs.Histories.{Begins}
-use Rattle.account_core.specs.Legality.{account_at}
 
 -- a move between two different mailboxes
 abbrev pub is_between : Call → Bool
@@ -28,18 +27,17 @@ is_change call given = false
 abbrev pub changes : List RootSpec → Account → Entry → Bool
 changes roots account entry = if entry.fault then false else is_change entry.call (reply_of roots account entry.call)
 
--- how many of these entries do, from this account on
-abbrev pub changes_from : List RootSpec → Account → List Entry → ℕ
-changes_from roots account [] = 0
-changes_from roots account (entry ∷ entries) = (if changes roots account entry then 1 else 0) + changes_from roots (account_after roots account entry) entries
-
 -- the generation of a history: how many of its entries without fault were answered Delivered, Removed, or Moved between two mailboxes
-abbrev pub generation : Opened → List Entry → ℕ
-generation opened history = changes_from opened.roots opened.account history
+abbrev pub generation : List RootSpec → Account → List Entry → ℕ
+generation roots account [] = 0
+generation roots account (entry ∷ entries) =
+    (if changes roots account entry then 1 else 0) + generation roots (account_after roots account entry) entries
 
 -- the account's number of changes is the generation of its history, on top of what it was opened with, which is 0
 abbrev pub GenerationIsCounted : Type 0
-GenerationIsCounted = (opened : Opened) (history : List Entry) → (account_at opened history).generation ≡ opened.account.generation + generation opened history
+GenerationIsCounted =
+    (roots : List RootSpec) (opening : Account) (history : List Entry)
+    → (replay roots opening history).generation ≡ opening.generation + generation roots opening history
 
 -- a message but for its flags
 abbrev pub unflagged : Message → List ℕ × List ℕ × ℕ
@@ -49,6 +47,7 @@ unflagged message = (message.mailbox, message.base, message.octets)
 -- one by one in order, and every usage is equal.
 abbrev pub EqualGenerationEqualUsage : Type 0
 EqualGenerationEqualUsage =
-    (opened : Opened) (earlier later : List Entry) → Begins earlier later → generation opened earlier ≡ generation opened later
-    → (map unflagged (account_at opened earlier).messages ≡ map unflagged (account_at opened later).messages)
-    × ((root : RootSpec) → usage root (account_at opened earlier) ≡ usage root (account_at opened later))
+    (roots : List RootSpec) (opening : Account) (earlier later : List Entry) → Begins earlier later
+    → generation roots opening earlier ≡ generation roots opening later
+    → (map unflagged (replay roots opening earlier).messages ≡ map unflagged (replay roots opening later).messages)
+    × ((root : RootSpec) → usage root (replay roots opening earlier) ≡ usage root (replay roots opening later))

@@ -4,6 +4,7 @@ use Rattle.quota_units.specs.Limiting.{LimitNumbers}
 use Rattle.quota_units.specs.declared.flags.Flags.{Flags}
 use Rattle.quota_units.specs.declared.resource.Resource.{Resource}
 use Rattle.quota_units.specs.declared.totals.Totals.{Totals}
+use Rattle.quota_roots.specs.declared.root.RootSpec.{RootSpec}
 use Rattle.quota_roots.specs.Governing.{gaining, governing, governs_at}
 use Rattle.admission.specs.Fitting.{allows, limits_at, totals_at, FitsEach}
 use Rattle.account_core.specs.declared.calls.Call.{Call}
@@ -11,7 +12,7 @@ use Rattle.account_core.specs.declared.calls.Call.TheVariants.{Deliver, Check, R
 use Rattle.account_core.specs.declared.calls.Entry.{Entry}
 use Rattle.account_core.specs.declared.calls.Reply.{Reply}
 use Rattle.account_core.specs.declared.calls.Reply.TheVariants.{Over, Delivered, Moved}
-use Rattle.account_core.specs.Account.{Account, Message, Opened}
+use Rattle.account_core.specs.Account.{Account, Message}
 use Rattle.account_core.specs.Messages.{named_message}
 use Rattle.account_core.specs.Machine.{has_mailbox, usages}
 use Rattle.account_core.specs.History.{replay, reply, entry_of}
@@ -45,25 +46,23 @@ pub record AreWithin (limits : LimitNumbers) (totals : Totals) : Type 0 where
   pub octets : allows limits.octets totals.octets ≡ true
   pub count : allows limits.count totals.count ≡ true
 
--- the account that a history leaves
-abbrev pub account_at : Opened → List Entry → Account
-account_at opened history = replay opened.roots opened.account history
+-- the usage of the root of this number is within its limits
+abbrev pub IsWithin : List RootSpec → Account → ℕ → Type 0
+IsWithin roots account root = AreWithin (limits_at account.limits root) (totals_at (usages roots account) root)
 
 -- the message fits each root that governs the mailbox, on top of what the root has
-abbrev pub FitsIn : Opened → List Entry → List ℕ → ℕ → Type 0
-FitsIn opened history mailbox octets =
-    FitsEach (account_at opened history).limits (usages opened.roots (account_at opened history)) (governing opened.roots mailbox) octets
+abbrev pub FitsIn : List RootSpec → Account → List ℕ → ℕ → Type 0
+FitsIn roots account mailbox octets = FitsEach account.limits (usages roots account) (governing roots mailbox) octets
 
--- No accepted message breaks a limit: behind the entry of a delivery that was accepted, each root that governs the mailbox has a
--- usage within its limits. It holds behind every history, so behind every legal one.
+-- No accepted message breaks a limit: after the entry of a delivery that was accepted, each root that governs the mailbox has a
+-- usage within its limits. It holds after every history, so after every legal one.
 abbrev pub NoneBroken : Type 0
 NoneBroken =
-    (opened : Opened) (history : List Entry) (caller : ℕ) (mailbox : List ℕ) (octets : ℕ) (flags : Flags) (number : ℕ)
-    → reply opened history (Deliver mailbox octets flags) ≡ Delivered number
-    → (root : ℕ) → governs_at opened.roots root mailbox ≡ true
-    → AreWithin
-    (limits_at (account_at opened (history ++ entry_of caller (Deliver mailbox octets flags) false ∷ [])).limits root)
-    (totals_at (usages opened.roots (account_at opened (history ++ entry_of caller (Deliver mailbox octets flags) false ∷ []))) root)
+    (roots : List RootSpec) (opening : Account) (history : List Entry) (caller : ℕ)
+    (mailbox : List ℕ) (octets : ℕ) (flags : Flags) (number : ℕ)
+    → reply roots opening history (Deliver mailbox octets flags) ≡ Delivered number
+    → (root : ℕ) → governs_at roots root mailbox ≡ true
+    → IsWithin roots (replay roots opening (history ++ entry_of caller (Deliver mailbox octets flags) false ∷ [])) root
 
 abbrev pub IsOver : Reply → Type 0
 IsOver given = (root : ℕ) × (resource : Resource) × (given ≡ Over root resource)
@@ -71,26 +70,23 @@ IsOver given = (root : ℕ) × (resource : Resource) × (given ≡ Over root res
 -- A delivery to a mailbox that exists, and a check, are answered that a root would be over exactly where the message does not fit.
 abbrev pub OverWhereNoFit : Type 0
 OverWhereNoFit =
-    (opened : Opened) (history : List Entry) (octets : ℕ)
-    → ((mailbox : List ℕ) (flags : Flags) → has_mailbox (account_at opened history) mailbox ≡ true
-    → (IsOver (reply opened history (Deliver mailbox octets flags)) ↔ ¬ FitsIn opened history mailbox octets))
-    × (IsOver (reply opened history (Check octets)) ↔ ¬ FitsIn opened history (codes "INBOX") octets)
+    (roots : List RootSpec) (opening : Account) (history : List Entry) (octets : ℕ)
+    → ((mailbox : List ℕ) (flags : Flags) → has_mailbox (replay roots opening history) mailbox ≡ true
+    → (IsOver (reply roots opening history (Deliver mailbox octets flags)) ↔ ¬ FitsIn roots (replay roots opening history) mailbox octets))
+    × (IsOver (reply roots opening history (Check octets)) ↔ ¬ FitsIn roots (replay roots opening history) (codes "INBOX") octets)
 
 -- the message fits each root that governs the target of a move and not its source
-abbrev pub FitsMoved : Opened → List Entry → List ℕ → List ℕ → ℕ → Type 0
-FitsMoved opened history from to octets =
-    FitsEach (account_at opened history).limits (usages opened.roots (account_at opened history)) (gaining opened.roots from to) octets
+abbrev pub FitsMoved : List RootSpec → Account → List ℕ → List ℕ → ℕ → Type 0
+FitsMoved roots account from to octets = FitsEach account.limits (usages roots account) (gaining roots from to) octets
 
--- No moved message breaks a limit: behind the entry of a move that was answered Moved, each root that governs the target and not
+-- No moved message breaks a limit: after the entry of a move that was answered Moved, each root that governs the target and not
 -- the source has a usage within its limits.
 abbrev pub NoneBrokenByMoves : Type 0
 NoneBrokenByMoves =
-    (opened : Opened) (history : List Entry) (caller : ℕ) (from base to : List ℕ)
-    → reply opened history (Move from base to) ≡ Moved
-    → (root : ℕ) → governs_at opened.roots root to ≡ true → governs_at opened.roots root from ≡ false
-    → AreWithin
-    (limits_at (account_at opened (history ++ entry_of caller (Move from base to) false ∷ [])).limits root)
-    (totals_at (usages opened.roots (account_at opened (history ++ entry_of caller (Move from base to) false ∷ []))) root)
+    (roots : List RootSpec) (opening : Account) (history : List Entry) (caller : ℕ) (from base to : List ℕ)
+    → reply roots opening history (Move from base to) ≡ Moved
+    → (root : ℕ) → governs_at roots root to ≡ true → governs_at roots root from ≡ false
+    → IsWithin roots (replay roots opening (history ++ entry_of caller (Move from base to) false ∷ [])) root
 
 -- the message is there, and nothing but a limit can keep it from the target
 pub record MayMove (account : Account) (from base to : List ℕ) (message : Message) : Type 0 where
@@ -104,6 +100,7 @@ pub record MayMove (account : Account) (from base to : List ℕ) (message : Mess
 -- not fit the roots that govern the target and not the source.
 abbrev pub MoveOverWhereNoFit : Type 0
 MoveOverWhereNoFit =
-    (opened : Opened) (history : List Entry) (from base to : List ℕ)
-    → (IsOver (reply opened history (Move from base to))
-    ↔ ((message : Message) × MayMove (account_at opened history) from base to message × ¬ FitsMoved opened history from to message.octets))
+    (roots : List RootSpec) (opening : Account) (history : List Entry) (from base to : List ℕ)
+    → (IsOver (reply roots opening history (Move from base to))
+    ↔ ((message : Message) × MayMove (replay roots opening history) from base to message
+    × ¬ FitsMoved roots (replay roots opening history) from to message.octets))

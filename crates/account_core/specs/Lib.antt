@@ -9,6 +9,7 @@ pub mod Forms
 pub mod History
 pub mod Legality
 pub mod Histories
+pub mod Logs
 pub mod Generations
 pub mod Naming
 pub mod Worked

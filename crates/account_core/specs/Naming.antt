@@ -1,10 +1,11 @@
 -- When a mailbox and a base name one message alone.
 use Rattle.std.specs.Prelude.{◌≡◌, ◌<◌, ◌≤◌, ◌+◌, ◌^◌, ℕ, List, length}
+use Rattle.quota_roots.specs.declared.root.RootSpec.{RootSpec}
 use Rattle.account_core.specs.declared.calls.Entry.{Entry}
-use Rattle.account_core.specs.Account.{Account, Message, Opened}
+use Rattle.account_core.specs.Account.{Account, Message}
 use Rattle.account_core.specs.Delivering.{delivered_base}
 use Rattle.account_core.specs.Messages.{how_many}
-use Rattle.account_core.specs.Legality.{account_at}
+use Rattle.account_core.specs.History.{replay}
 
 -- no mailbox has a base twice
 abbrev pub AreApart : List Message → Type 0
@@ -18,5 +19,5 @@ AreUnused account =
 -- Where no mailbox has a base twice and no message has the base of a delivery to come, none has a base twice after any history.
 abbrev pub NamesStayApart : Type 0
 NamesStayApart =
-    (opened : Opened) (history : List Entry) → opened.account.deliveries + length history < 2 ^ 64
-    → AreApart opened.account.messages → AreUnused opened.account → AreApart (account_at opened history).messages
+    (roots : List RootSpec) (opening : Account) (history : List Entry) → opening.deliveries + length history < 2 ^ 64
+    → AreApart opening.messages → AreUnused opening → AreApart (replay roots opening history).messages

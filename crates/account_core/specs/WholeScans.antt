@@ -6,10 +6,10 @@ use Rattle.quota_roots.specs.declared.root.RootSpec.{RootSpec}
 use Rattle.quota_roots.specs.Governing.{governs}
 use Rattle.quota_roots.specs.Setups.{are_different}
 use Rattle.account_core.specs.declared.calls.Entry.{Entry}
-use Rattle.account_core.specs.Account.{Account, Message, Opened, usage}
+use Rattle.account_core.specs.Account.{Account, Message, usage}
 use Rattle.account_core.specs.Messages.{sum_in}
 use Rattle.account_core.specs.Machine.{has_mailbox}
-use Rattle.account_core.specs.Legality.{account_at}
+use Rattle.account_core.specs.History.{replay}
 
 -- each message is in one of the account's mailboxes
 abbrev pub are_housed : Account → Bool
@@ -25,5 +25,5 @@ whole_scan root account = record { octets = parts_of root (λ m. m.octets) accou
 -- Where the mailboxes are different and each message was in one of them at the opening, the parts add up to the usage, after any history.
 abbrev pub WholeScanIsUsage : Type 0
 WholeScanIsUsage =
-    (opened : Opened) (history : List Entry) → are_different opened.account.mailboxes ≡ true → are_housed opened.account ≡ true
-    → (root : RootSpec) → whole_scan root (account_at opened history) ≡ usage root (account_at opened history)
+    (roots : List RootSpec) (opening : Account) (history : List Entry) → are_different opening.mailboxes ≡ true → are_housed opening ≡ true
+    → (root : RootSpec) → whole_scan root (replay roots opening history) ≡ usage root (replay roots opening history)

@@ -3,15 +3,15 @@ use Rattle.std.specs.Prelude.{◌≡◌, ℕ, true, List, [], ◌∷◌, Option,
 use Rattle.quota_units.specs.Limiting.{LimitNumbers}
 use Rattle.quota_units.specs.Flagging.{flags_among}
 use Rattle.quota_units.specs.declared.resource.Resource.TheVariants.{Storage, Message as Messages}
+use Rattle.quota_roots.specs.declared.root.RootSpec.{RootSpec}
 use Rattle.account_core.specs.declared.calls.Call.{Call}
 use Rattle.account_core.specs.declared.calls.Call.TheVariants.{Deliver, Check, Quota as QuotaCall, SetLimits, Roots as RootsCall, Status as StatusCall}
 use Rattle.account_core.specs.declared.calls.RootRow.{RootRow}
 use Rattle.account_core.specs.declared.calls.Reply.TheVariants.{NoMailbox, Over, Delivered, Fits, NoRoot, Quota, LimitsSet, Roots, Status}
-use Rattle.account_core.specs.Account.{Opened}
+use Rattle.account_core.specs.Account.{Account}
 use Rattle.account_core.specs.Delivering.{delivered_base}
-use Rattle.account_core.specs.Legality.{account_at}
-use Rattle.account_core.specs.History.{reply, entry_of}
-use Rattle.account_core.specs.Worked.{plain_message, worked_root, worked, made}
+use Rattle.account_core.specs.History.{replay, reply, entry_of}
+use Rattle.account_core.specs.Worked.{plain_message, worked_root, one_root, worked, made}
 
 -- a message of so many octets, without flags, for this mailbox
 abbrev pub delivery : List ℕ → ℕ → Call
@@ -26,60 +26,60 @@ abbrev pub root_row : ℕ → ℕ → ℕ → LimitNumbers → RootRow
 root_row root octets count limits = record { root = root; octets = octets; count = count; limits = limits }
 
 -- an account of 1024 octets that has no message
-abbrev pub empty : Opened
+abbrev pub empty : Account
 empty = worked (Some 1024) []
 
 -- A message may take a root up to its limit and no further; a mailbox that no root governs has no limit; a delivery that was refused
 -- or that failed counts nowhere; and an accepted one has its number in its name, and its flags.
 pub record DeliveriesAreAnswered : Type 0 where
-  pub whole : reply empty [] (delivery (codes "INBOX") 1024) ≡ Delivered 1
-  pub above : reply empty [] (delivery (codes "INBOX") 1025) ≡ Over 0 Storage
-  pub no_mailbox : reply empty [] (delivery (codes "Old") 1025) ≡ NoMailbox
-  pub more : reply empty (made (delivery (codes "INBOX") 1024) ∷ []) (delivery (codes "Lists") 1) ≡ Over 0 Storage
-  pub counted : reply empty (made (delivery (codes "INBOX") 1024) ∷ []) (QuotaCall []) ≡ Quota (root_row 0 1024 1 (limited (Some 1024) None))
-  pub nothing : reply empty (made (delivery (codes "INBOX") 1024) ∷ []) (delivery (codes "INBOX") 0) ≡ Delivered 2
-  pub ungoverned : reply empty (made (delivery (codes "INBOX") 1024) ∷ []) (delivery (codes "Trash") 5000) ≡ Delivered 2
-  pub refused : reply empty (made (delivery (codes "INBOX") 1025) ∷ []) (delivery (codes "INBOX") 1024) ≡ Delivered 1
-  pub failed : reply empty (entry_of 0 (delivery (codes "INBOX") 1024) true ∷ []) (delivery (codes "INBOX") 1024) ≡ Delivered 1
-  pub named : (account_at empty (made (delivery (codes "INBOX") 7) ∷ made (delivery (codes "Trash") 8) ∷ [])).messages
+  pub whole : reply one_root empty [] (delivery (codes "INBOX") 1024) ≡ Delivered 1
+  pub above : reply one_root empty [] (delivery (codes "INBOX") 1025) ≡ Over 0 Storage
+  pub no_mailbox : reply one_root empty [] (delivery (codes "Old") 1025) ≡ NoMailbox
+  pub more : reply one_root empty (made (delivery (codes "INBOX") 1024) ∷ []) (delivery (codes "Lists") 1) ≡ Over 0 Storage
+  pub counted : reply one_root empty (made (delivery (codes "INBOX") 1024) ∷ []) (QuotaCall []) ≡ Quota (root_row 0 1024 1 (limited (Some 1024) None))
+  pub nothing : reply one_root empty (made (delivery (codes "INBOX") 1024) ∷ []) (delivery (codes "INBOX") 0) ≡ Delivered 2
+  pub ungoverned : reply one_root empty (made (delivery (codes "INBOX") 1024) ∷ []) (delivery (codes "Trash") 5000) ≡ Delivered 2
+  pub refused : reply one_root empty (made (delivery (codes "INBOX") 1025) ∷ []) (delivery (codes "INBOX") 1024) ≡ Delivered 1
+  pub failed : reply one_root empty (entry_of 0 (delivery (codes "INBOX") 1024) true ∷ []) (delivery (codes "INBOX") 1024) ≡ Delivered 1
+  pub named : (replay one_root empty (made (delivery (codes "INBOX") 7) ∷ made (delivery (codes "Trash") 8) ∷ [])).messages
       ≡ plain_message (codes "INBOX") (delivered_base 1700000000 1) 7 ∷ plain_message (codes "Trash") (delivered_base 1700000000 2) 8 ∷ []
-  pub flagged : reply empty (made (Deliver (codes "INBOX") 7 (flags_among (codes "ST"))) ∷ []) (StatusCall (codes "INBOX")) ≡ Status 1 0 1 7 7
+  pub flagged : reply one_root empty (made (Deliver (codes "INBOX") 7 (flags_among (codes "ST"))) ∷ []) (StatusCall (codes "INBOX")) ≡ Status 1 0 1 7 7
 
 -- an account of 2048 octets that has half of them
-abbrev pub half_full : Opened
+abbrev pub half_full : Account
 half_full = worked (Some 2048) (plain_message (codes "INBOX") (codes "1.mx") 1024 ∷ [])
 
 -- a check is answered by what INBOX would take, and takes nothing
 pub record ChecksAreAnswered : Type 0 where
-  pub over : reply half_full [] (Check 2000) ≡ Over 0 Storage
-  pub fits : reply half_full [] (Check 1024) ≡ Fits
-  pub kept : reply half_full (made (Check 1024) ∷ []) (Check 1024) ≡ Fits
+  pub over : reply one_root half_full [] (Check 2000) ≡ Over 0 Storage
+  pub fits : reply one_root half_full [] (Check 1024) ≡ Fits
+  pub kept : reply one_root half_full (made (Check 1024) ∷ []) (Check 1024) ≡ Fits
 
--- an account of two roots: one of 20 octets and 1 message, and one of 10 octets for the mailbox Lists and those below it
-abbrev pub two_roots : Opened
-two_roots = record {
-  roots = worked_root ∷ (record { name = codes "lists"; prefix = Some (codes "Lists") }) ∷ [];
-  journal = 64;
-  account = record {
-    limits = limited (Some 20) (Some 1) ∷ limited (Some 10) None ∷ [];
-    mailboxes = codes "INBOX" ∷ codes "Lists" ∷ [];
-    messages = [];
-    deliveries = 0;
-    epoch = 1700000000;
-    generation = 0;
-  };
+-- two roots: that one, and one for the mailbox Lists and those below it
+abbrev pub two_roots : List RootSpec
+two_roots = worked_root ∷ (record { name = codes "lists"; prefix = Some (codes "Lists") }) ∷ []
+
+-- an account of these, with 20 octets and 1 message for the first root, and 10 octets for the second
+abbrev pub two_limits : Account
+two_limits = record {
+  limits = limited (Some 20) (Some 1) ∷ limited (Some 10) None ∷ [];
+  mailboxes = codes "INBOX" ∷ codes "Lists" ∷ [];
+  messages = [];
+  deliveries = 0;
+  epoch = 1700000000;
+  generation = 0;
 }
 
 -- the first root in order is named, and of it storage before messages; the roots of a mailbox are told whether it exists or not
 pub record RootsAreNamed : Type 0 where
-  pub second : reply two_roots [] (delivery (codes "Lists") 15) ≡ Over 1 Storage
-  pub first : reply two_roots (made (delivery (codes "INBOX") 5) ∷ []) (delivery (codes "Lists") 15) ≡ Over 0 Messages
-  pub storage : reply two_roots (made (delivery (codes "INBOX") 5) ∷ []) (delivery (codes "Lists") 16) ≡ Over 0 Storage
-  pub unknown : reply (worked (Some 524288) []) [] (RootsCall (codes "Nowhere")) ≡ Roots (root_row 0 0 0 (limited (Some 524288) None) ∷ [])
-  pub ungoverned : reply (worked (Some 524288) []) [] (RootsCall (codes "Trash")) ≡ Roots []
-  pub below : reply two_roots (made (delivery (codes "Lists") 10) ∷ []) (RootsCall (codes "Lists.a"))
+  pub second : reply two_roots two_limits [] (delivery (codes "Lists") 15) ≡ Over 1 Storage
+  pub first : reply two_roots two_limits (made (delivery (codes "INBOX") 5) ∷ []) (delivery (codes "Lists") 15) ≡ Over 0 Messages
+  pub storage : reply two_roots two_limits (made (delivery (codes "INBOX") 5) ∷ []) (delivery (codes "Lists") 16) ≡ Over 0 Storage
+  pub unknown : reply one_root (worked (Some 524288) []) [] (RootsCall (codes "Nowhere")) ≡ Roots (root_row 0 0 0 (limited (Some 524288) None) ∷ [])
+  pub ungoverned : reply one_root (worked (Some 524288) []) [] (RootsCall (codes "Trash")) ≡ Roots []
+  pub below : reply two_roots two_limits (made (delivery (codes "Lists") 10) ∷ []) (RootsCall (codes "Lists.a"))
       ≡ Roots (root_row 0 10 1 (limited (Some 20) (Some 1)) ∷ root_row 1 10 1 (limited (Some 10) None) ∷ [])
-  pub beside : reply two_roots [] (RootsCall (codes "Listsa")) ≡ Roots (root_row 0 0 0 (limited (Some 20) (Some 1)) ∷ [])
+  pub beside : reply two_roots two_limits [] (RootsCall (codes "Listsa")) ≡ Roots (root_row 0 0 0 (limited (Some 20) (Some 1)) ∷ [])
 
 -- the change of the limits of a root to these
 abbrev pub change : List ℕ → Option ℕ → Option ℕ → Call
@@ -87,13 +87,13 @@ change root octets count = SetLimits root (limited octets count)
 
 -- Limits that a change does not list are removed, those of other roots stay, and a usage may be above the new ones.
 pub record LimitsAreAnswered : Type 0 where
-  pub told : reply (worked (Some 524288) []) [] (QuotaCall []) ≡ Quota (root_row 0 0 0 (limited (Some 524288) None))
-  pub replaced : reply (worked (Some 524288) []) [] (change [] None (Some 10)) ≡ LimitsSet (root_row 0 0 0 (limited None (Some 10)))
-  pub after : reply (worked (Some 524288) []) (made (change [] None (Some 10)) ∷ []) (QuotaCall []) ≡ Quota (root_row 0 0 0 (limited None (Some 10)))
-  pub removed : reply (worked (Some 524288) []) [] (change [] None None) ≡ LimitsSet (root_row 0 0 0 (limited None None))
-  pub below : reply half_full [] (change [] (Some 1) None) ≡ LimitsSet (root_row 0 1024 1 (limited (Some 1) None))
-  pub failed : reply half_full (entry_of 0 (change [] (Some 1) None) true ∷ []) (Check 1024) ≡ Fits
-  pub other : reply two_roots (made (change (codes "lists") (Some 15) None) ∷ []) (QuotaCall []) ≡ Quota (root_row 0 0 0 (limited (Some 20) (Some 1)))
-  pub room : reply two_roots (made (change (codes "lists") (Some 15) None) ∷ []) (delivery (codes "Lists") 15) ≡ Delivered 1
-  pub no_root : reply two_roots [] (change (codes "Lists") None None) ≡ NoRoot
-  pub no_such : reply two_roots (made (change (codes "Lists") None None) ∷ []) (QuotaCall (codes "Lists")) ≡ NoRoot
+  pub told : reply one_root (worked (Some 524288) []) [] (QuotaCall []) ≡ Quota (root_row 0 0 0 (limited (Some 524288) None))
+  pub replaced : reply one_root (worked (Some 524288) []) [] (change [] None (Some 10)) ≡ LimitsSet (root_row 0 0 0 (limited None (Some 10)))
+  pub after : reply one_root (worked (Some 524288) []) (made (change [] None (Some 10)) ∷ []) (QuotaCall []) ≡ Quota (root_row 0 0 0 (limited None (Some 10)))
+  pub removed : reply one_root (worked (Some 524288) []) [] (change [] None None) ≡ LimitsSet (root_row 0 0 0 (limited None None))
+  pub below : reply one_root half_full [] (change [] (Some 1) None) ≡ LimitsSet (root_row 0 1024 1 (limited (Some 1) None))
+  pub failed : reply one_root half_full (entry_of 0 (change [] (Some 1) None) true ∷ []) (Check 1024) ≡ Fits
+  pub other : reply two_roots two_limits (made (change (codes "lists") (Some 15) None) ∷ []) (QuotaCall []) ≡ Quota (root_row 0 0 0 (limited (Some 20) (Some 1)))
+  pub room : reply two_roots two_limits (made (change (codes "lists") (Some 15) None) ∷ []) (delivery (codes "Lists") 15) ≡ Delivered 1
+  pub no_root : reply two_roots two_limits [] (change (codes "Lists") None None) ≡ NoRoot
+  pub no_such : reply two_roots two_limits (made (change (codes "Lists") None None) ∷ []) (QuotaCall (codes "Lists")) ≡ NoRoot

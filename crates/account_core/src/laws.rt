@@ -1,5 +1,6 @@
 ghost use Rattle.account_core.specs.Generations.{EqualGenerationEqualUsage, GenerationIsCounted};
 ghost use Rattle.account_core.specs.Forms.{RepliesHaveForm};
+ghost use Rattle.account_core.specs.Logs.{LogsAreTheCallersOwn, LogsJoin};
 ghost use Rattle.account_core.specs.Naming.{NamesStayApart};
 ghost use Rattle.account_core.specs.Worked.{MessagesAreCounted, MovesAreAnswered, ScansAreAnswered};
 ghost use Rattle.account_core.specs.WorkedLimits.{ChecksAreAnswered, DeliveriesAreAnswered, LimitsAreAnswered, RootsAreNamed};
@@ -54,6 +55,16 @@ pub fn whole_scans_are_usages()
 /// The machine's replies are of the kinds that their calls may get, and the roots that they name are there.
 pub fn replies_have_their_form()
     ensures { RepliesHaveForm }
+{}
+
+/// The calls of a caller that were logged, and those that were logged after them, are one log.
+pub fn logs_join()
+    ensures { LogsJoin }
+{}
+
+/// The entries of a caller's log are those that were added to its own, in their order.
+pub fn logs_are_the_callers_own()
+    ensures { LogsAreTheCallersOwn }
 {}
 
 /// Worked accounts: moves out of Trash, into it and within a mailbox; messages that are moved, marked, removed and counted;
