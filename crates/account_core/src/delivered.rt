@@ -26,27 +26,3 @@ pub fn delivered_base(alloc: Global, epoch: u64, number: u64) -> Result<Name, No
 pub fn delivered_bases_differ()
     ensures { DeliveredBasesDiffer }
 {}
-
-#[cfg(test)]
-mod tests {
-    use super::*;
-    use std::test::Fail;
-
-    #[test]
-    fn a_base_has_the_epoch_and_the_number(rt: HostRuntime) -> Result<(), Fail> {
-        let alloc = rt.alloc();
-        let table: [(u64, u64, &[u8]); 3] = [
-            (0, 1, b"0.1.quotad"),
-            (1700000000, 20, b"1700000000.20.quotad"),
-            (
-                18446744073709551615,
-                18446744073709551615,
-                b"18446744073709551615.18446744073709551615.quotad",
-            ),
-        ];
-        for (epoch, number, expected) in table {
-            assert_eq!(rt; delivered_base(alloc, epoch, number)?.as_slice(), expected);
-        }
-        Ok(())
-    }
-}

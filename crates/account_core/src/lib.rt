@@ -20,6 +20,3 @@ pub use laws::{
 };
 pub use rows::RootRows;
 pub use scans::{RootSets, TotalsList};
-
-#[cfg(test)]
-mod tests;

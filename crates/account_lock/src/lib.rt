@@ -19,6 +19,3 @@ pub use faults::{CloseFault, Full, LockFault};
 pub use lock::Lock;
 pub use pass::Pass;
 pub use turn::Turn;
-
-#[cfg(test)]
-mod tests;

@@ -9,6 +9,3 @@ mod limits;
 
 pub use admit::admit_files;
 pub use error::OpenError;
-
-#[cfg(test)]
-mod tests;

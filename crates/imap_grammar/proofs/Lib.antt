@@ -1,4 +1,3 @@
-pub mod Choices
 pub mod Escaping
 pub mod Many
 pub mod Tags

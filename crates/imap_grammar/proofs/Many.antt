@@ -1,5 +1,6 @@
 -- Reading all bytes of a kind, as far as an index.
 use Rattle.std.proofs.Common.{◌≡◌, ℕ, ◌+◌, ◌<◌, ◌≤◌, Bool, true, false, List, [], ◌∷◌, ◌++◌, length, take, drop, get_or, refl, sym, ap, ◌∙◌, if◌then◌else◌, append_assoc, append-nil}
+use Rattle.std.proofs.lemmas.Bool.{cond-false, cond-true}
 use Rattle.std.proofs.lemmas.List.{drop_more, take_more, drop_all}
 use Rattle.imap_grammar.specs.Reading.{Reading, got, wrong, short, many, with_first}
 
@@ -13,14 +14,6 @@ pub front_first : (front : List ℕ) (b : ℕ) (reading : Reading (List ℕ)) �
 front_first front b (got bytes rest) = ap (λ l. got l rest) (sym (append_assoc front (b ∷ []) bytes))
 front_first front b (wrong rest) = refl
 front_first front b short = refl
-
-choose : {A : Type 0} (c : Bool) (x y : A) → c ≡ true → (if c then x else y) ≡ x
-choose true x y e = refl
-choose false x y e = absurd cc
-
-refuse : {A : Type 0} (c : Bool) (x y : A) → c ≡ false → (if c then x else y) ≡ y
-refuse true x y e = absurd cc
-refuse false x y e = refl
 
 module _ (is : ℕ → Bool) (text : List ℕ) where
   -- what is read, as far as an index
@@ -38,14 +31,14 @@ module _ (is : ℕ → Bool) (text : List ℕ) where
   pub read_more : (i : ℕ) → i < length text → is (get_or text i 0) ≡ true → ReadTo i → ReadTo (i + 1)
   read_more i lt holds so_far =
       so_far ∙ ap (λ l. with_front (take i text) (many is l)) (drop_more text i 0 lt)
-      ∙ ap (with_front (take i text)) (choose (is (get_or text i 0)) _ _ holds)
+      ∙ ap (with_front (take i text)) (cond-true (is (get_or text i 0)) _ _ holds)
       ∙ front_first (take i text) (get_or text i 0) (many is (drop (i + 1) text))
       ∙ ap (λ l. with_front l (many is (drop (i + 1) text))) (sym (take_more text i 0 lt))
 
   pub read_stops : (i : ℕ) → i < length text → is (get_or text i 0) ≡ false → ReadTo i → many is text ≡ got (take i text) (drop i text)
   read_stops i lt fails so_far =
       so_far ∙ ap (λ l. with_front (take i text) (many is l)) (drop_more text i 0 lt)
-      ∙ ap (with_front (take i text)) (refuse (is (get_or text i 0)) _ _ fails)
+      ∙ ap (with_front (take i text)) (cond-false (is (get_or text i 0)) _ _ fails)
       ∙ ap (λ l. got l (get_or text i 0 ∷ drop (i + 1) text)) (append-nil (take i text))
       ∙ ap (got (take i text)) (sym (drop_more text i 0 lt))
 

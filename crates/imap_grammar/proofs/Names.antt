@@ -7,7 +7,7 @@ use Rattle.imap_grammar.specs.Printing.{escaped}
 use Rattle.imap_grammar.specs.Grammar.{IsPlain, IsAstring}
 use Rattle.imap_grammar.specs.Reading.{Reading, got, wrong, short, with_first, many}
 use Rattle.imap_grammar.specs.Astrings.{plain, inside, astring}
-use Rattle.imap_grammar.proofs.Choices.{choose, refuse, and_parts}
+use Rattle.std.proofs.lemmas.Bool.{and_parts, cond-false, cond-true}
 use Rattle.imap_grammar.proofs.Takes.{Takes, Run, takes_if, takes_many, takes_weaker}
 use Rattle.imap_grammar.proofs.Spelled.{run_spelled}
 
@@ -26,7 +26,7 @@ takes_plain [] = tt
 takes_plain (b ∷ bs) = takes_if Plain (is_astring_byte b) (b ∷ bs) (many is_astring_byte (b ∷ bs)) (wrong (b ∷ bs)) some (λ e. tt)
   where
     some : is_astring_byte b ≡ true → Takes Plain (b ∷ bs) (many is_astring_byte (b ∷ bs))
-    some e = subst (Takes Plain (b ∷ bs)) (sym (choose (is_astring_byte b) (with_first b (many is_astring_byte bs)) (got [] (b ∷ bs)) e)) (plain_more b bs (many is_astring_byte bs) e (takes_many is_astring_byte bs))
+    some e = subst (Takes Plain (b ∷ bs)) (sym (cond-true (is_astring_byte b) (with_first b (many is_astring_byte bs)) (got [] (b ∷ bs)) e)) (plain_more b bs (many is_astring_byte bs) e (takes_many is_astring_byte bs))
 
 -- what stands up to the closing quote
 abbrev Closed : List ℕ → List ℕ → Type 0
@@ -54,7 +54,7 @@ behind_more b bs short e p = tt
 
 slash_more : (b : ℕ) (bs : List ℕ) (reading : Reading (List ℕ)) → b ≡ 92 → Takes Behind bs reading → Takes Closed (b ∷ bs) reading
 slash_more b bs (got v rest) e (bytes, (c, cs, is, is_one, each, i), j) =
-    let first : escaped c ≡ 92 ∷ c ∷ [] = choose (is_escaped c) (92 ∷ c ∷ []) (c ∷ []) is_one in
+    let first : escaped c ≡ 92 ∷ c ∷ [] = cond-true (is_escaped c) (92 ∷ c ∷ []) (c ∷ []) is_one in
     let spelled : 92 ∷ bytes ≡ flat_map escaped v ++ 34 ∷ [] =
     ap (λ l. 92 ∷ l) i ∙ sym (ap (λ l. (l ++ flat_map escaped cs) ++ 34 ∷ []) first) ∙ sym (ap (λ l. flat_map escaped l ++ 34 ∷ []) is) in
     (92 ∷ bytes, (subst (λ l. list_all is_quotable l ≡ true) (sym is) each, spelled), ap (λ c. c ∷ bs) e ∙ ap (λ l. 92 ∷ l) j)
@@ -63,7 +63,7 @@ slash_more b bs short e p = tt
 
 closed_more : (b : ℕ) (bs : List ℕ) (reading : Reading (List ℕ)) → is_escaped b ≡ false → is_quotable b ≡ true → Takes Closed bs reading → Takes Closed (b ∷ bs) (with_first b reading)
 closed_more b bs (got v rest) other e p =
-    let first : escaped b ≡ b ∷ [] = refuse (is_escaped b) (92 ∷ b ∷ []) (b ∷ []) other in
+    let first : escaped b ≡ b ∷ [] = cond-false (is_escaped b) (92 ∷ b ∷ []) (b ∷ []) other in
     (b ∷ p.0, (ap (λ c. c && list_all is_quotable v) e ∙ p.1.0, ap (λ l. b ∷ l) p.1.1 ∙ sym (ap (λ l. (l ++ flat_map escaped v) ++ 34 ∷ []) first)), ap (λ l. b ∷ l) p.2)
 closed_more b bs (wrong rest) other e p = tt
 closed_more b bs short other e p = tt
@@ -98,7 +98,7 @@ pub plain_spelled : (bytes : List ℕ) (b : ℕ) (rest : List ℕ) → IsPlain b
 plain_spelled [] b rest is stops = let lt = is.some in absurd (omega (arith, lt))
 plain_spelled (x ∷ bytes) b rest is stops =
     let parts = and_parts (is_astring_byte x) (list_all is_astring_byte bytes) is.each in
-    choose (is_astring_byte x) (many is_astring_byte (x ∷ (bytes ++ b ∷ rest))) (wrong (x ∷ (bytes ++ b ∷ rest))) parts.0 ∙ run_spelled is_astring_byte (x ∷ bytes) b rest is.each stops
+    cond-true (is_astring_byte x) (many is_astring_byte (x ∷ (bytes ++ b ∷ rest))) (wrong (x ∷ (bytes ++ b ∷ rest))) parts.0 ∙ run_spelled is_astring_byte (x ∷ bytes) b rest is.each stops
 
 one_inside : (x : ℕ) (text v rest : List ℕ) → is_quotable x ≡ true → inside false text ≡ got v rest → inside false (escaped x ++ text) ≡ got (x ∷ v) rest
 one_inside x text v rest fits e = go (is_escaped x) refl
@@ -107,12 +107,12 @@ one_inside x text v rest fits e = go (is_escaped x) refl
     apart other = grind (arith, nat_tests)
 
     go : (c : Bool) → is_escaped x ≡ c → inside false ((if c then 92 ∷ x ∷ [] else x ∷ []) ++ text) ≡ got (x ∷ v) rest
-    go true is = choose (is_escaped x) (with_first x (inside false text)) (wrong (x ∷ text)) is ∙ ap (with_first x) e
+    go true is = cond-true (is_escaped x) (with_first x (inside false text)) (wrong (x ∷ text)) is ∙ ap (with_first x) e
     go false other =
         let tests = apart other in
-        refuse (eqb x 34) (got [] text) (if eqb x 92 then inside true text else if is_quotable x then with_first x (inside false text) else wrong (x ∷ text)) tests.0
-        ∙ refuse (eqb x 92) (inside true text) (if is_quotable x then with_first x (inside false text) else wrong (x ∷ text)) tests.1
-        ∙ choose (is_quotable x) (with_first x (inside false text)) (wrong (x ∷ text)) fits ∙ ap (with_first x) e
+        cond-false (eqb x 34) (got [] text) (if eqb x 92 then inside true text else if is_quotable x then with_first x (inside false text) else wrong (x ∷ text)) tests.0
+        ∙ cond-false (eqb x 92) (inside true text) (if is_quotable x then with_first x (inside false text) else wrong (x ∷ text)) tests.1
+        ∙ cond-true (is_quotable x) (with_first x (inside false text)) (wrong (x ∷ text)) fits ∙ ap (with_first x) e
 
 inside_spelled : (v rest : List ℕ) → list_all is_quotable v ≡ true → inside false (flat_map escaped v ++ 34 ∷ rest) ≡ got v rest
 inside_spelled [] rest each = refl
@@ -127,7 +127,7 @@ pub astring_spelled : (bytes value : List ℕ) (b : ℕ) (rest : List ℕ) → I
 astring_spelled [] value b rest (inl (is, same)) stops = let lt = is.some in absurd (omega (arith, lt))
 astring_spelled (x ∷ bytes) value b rest (inl (is, same)) stops =
     let parts = and_parts (is_astring_byte x) (list_all is_astring_byte bytes) is.each in
-    refuse (eqb x 34) (inside false (bytes ++ b ∷ rest)) (plain (x ∷ (bytes ++ b ∷ rest))) (no_quote x parts.0)
+    cond-false (eqb x 34) (inside false (bytes ++ b ∷ rest)) (plain (x ∷ (bytes ++ b ∷ rest))) (no_quote x parts.0)
     ∙ plain_spelled (x ∷ bytes) b rest is stops ∙ ap (λ l. got l (b ∷ rest)) (sym same)
 astring_spelled bytes value b rest (inr is) stops =
     ap (λ l. astring (l ++ b ∷ rest)) is.spelled ∙ ap (inside false) (append_assoc (flat_map escaped value) (34 ∷ []) (b ∷ rest)) ∙ inside_spelled value (b ∷ rest) is.each

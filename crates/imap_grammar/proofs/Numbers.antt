@@ -8,19 +8,17 @@ use Rattle.std.proofs.lemmas.Int.Digits.{digits_value_push}
 use Rattle.std.proofs.lemmas.Str.Parse.{digits_value-take-le}
 use Rattle.std.proofs.lemmas.Str.{digit_value_digit}
 use Rattle.std.proofs.lemmas.List.{take_at}
+use Rattle.quota_units.proofs.DigitLemmas.{digit_range}
 use Rattle.imap_grammar.specs.Grammar.{IsNumber}
 use Rattle.imap_grammar.specs.Reading.{Reading, got, wrong, short}
 use Rattle.imap_grammar.specs.Numbers.{takes_digit, number_ends, digits, number, max_number}
-use Rattle.imap_grammar.proofs.Choices.{choose, refuse, and_parts}
+use Rattle.std.proofs.lemmas.Bool.{and_parts, cond-false, cond-true}
 use Rattle.imap_grammar.proofs.Takes.{Takes, takes_if}
-
-in_range : (c : ℕ) → is_ascii_digit c ≡ true → (48 ≤ c) × (c ≤ 57)
-in_range c h = grind (arith, nat_tests)
 
 -- the value of one digit more
 pub push_value : (front : List ℕ) (b : ℕ) → is_ascii_digit b ≡ true → digits_value 10 (front ++ b ∷ []) ≡ digits_value 10 front * 10 + (b - 48)
 push_value front b e =
-    let r = in_range b e in
+    let r = digit_range b e in
     let v = digit_value_digit b r in
     let same : digit_value b ≡ b - 48 = omega arith in
     digits_value_push 10 front b ∙ ap (λ n. digits_value 10 front * 10 + n) same
@@ -99,7 +97,7 @@ digits_spelled [] front n b rest is stops =
     let some : 0 < length front = subst (λ l. 0 < length l) all is.some in
     let value : n ≡ digits_value 10 front = is.value ∙ ap (digits_value 10) all in
     let none : takes_digit (length front) (digits_value 10 front) b ≡ false = ap (λ c. c && (ltb (length front) 19 && leb (digits_value 10 front * 10 + (b - 48)) max_number)) stops in
-    refuse (takes_digit (length front) (digits_value 10 front) b) (digits (length front + 1) (digits_value 10 front * 10 + (b - 48)) rest) (number_ends (length front) (digits_value 10 front) (b ∷ rest)) none
+    cond-false (takes_digit (length front) (digits_value 10 front) b) (digits (length front + 1) (digits_value 10 front * 10 + (b - 48)) rest) (number_ends (length front) (digits_value 10 front) (b ∷ rest)) none
     ∙ ends (length front) some ∙ ap (λ m. got m (b ∷ rest)) (sym value)
   where
     ends : (m : ℕ) → 0 < m → number_ends m (digits_value 10 front) (b ∷ rest) ≡ got (digits_value 10 front) (b ∷ rest)
@@ -117,7 +115,7 @@ digits_spelled (x ∷ back) front n b rest is stops =
     let is_value = is.value in
     let bounded = is.bounded in
     let t : IsTaken (length front) (digits_value 10 front) x = record { digit = digit; few = omega (arith, whole, few); bounded = omega (arith, value, below, is_value, bounded) } in
-    choose (takes_digit (length front) (digits_value 10 front) x) (digits (length front + 1) (digits_value 10 front * 10 + (x - 48)) (back ++ b ∷ rest)) (number_ends (length front) (digits_value 10 front) (x ∷ (back ++ b ∷ rest))) (takes_it (length front) (digits_value 10 front) x t)
+    cond-true (takes_digit (length front) (digits_value 10 front) x) (digits (length front + 1) (digits_value 10 front * 10 + (x - 48)) (back ++ b ∷ rest)) (number_ends (length front) (digits_value 10 front) (x ∷ (back ++ b ∷ rest))) (takes_it (length front) (digits_value 10 front) x t)
     ∙ ap (λ m. digits m (digits_value 10 front * 10 + (x - 48)) (back ++ b ∷ rest)) (sym size)
     ∙ ap (λ m. digits (length (front ++ x ∷ [])) m (back ++ b ∷ rest)) (sym value)
     ∙ digits_spelled back (front ++ x ∷ []) n b rest (subst (λ l. IsNumber l n) (sym joined) is) stops

@@ -6,7 +6,7 @@ use Rattle.quota_units.specs.Bytes.{is_printable}
 use Rattle.imap_grammar.specs.Bytes.{is_astring_byte, is_quotable}
 use Rattle.imap_grammar.specs.Printing.{is_plain, is_printable_text, quoted, literal, printed}
 use Rattle.imap_grammar.specs.Grammar.{IsAstring}
-use Rattle.imap_grammar.proofs.Choices.{and_parts, choose}
+use Rattle.std.proofs.lemmas.Bool.{and_parts, cond-true}
 
 printable_quotable : (b : ℕ) → is_printable b ≡ true → is_quotable b ≡ true
 printable_quotable b e = grind (arith, nat_tests)
@@ -25,4 +25,4 @@ printed_reads_back name e = go (is_plain name) refl
         let parts = and_parts (ltb 0 (length name)) (list_all is_astring_byte name) is in
         let some : 0 < length name = grind (arith, nat_tests) in
         inl (record { some = some; each = parts.1 }, refl)
-    go false is = subst (λ l. IsAstring l name) (sym (choose (is_printable_text name) (quoted name) (literal name) e)) (inr (record { each = all_quotable name e; spelled = refl }))
+    go false is = subst (λ l. IsAstring l name) (sym (cond-true (is_printable_text name) (quoted name) (literal name) e)) (inr (record { each = all_quotable name e; spelled = refl }))

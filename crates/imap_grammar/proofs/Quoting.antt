@@ -4,7 +4,7 @@ use Rattle.std.proofs.lemmas.List.{drop_more, drop_all}
 use Rattle.imap_grammar.specs.Bytes.{is_escaped, is_quotable}
 use Rattle.imap_grammar.specs.Reading.{Reading, got, wrong, short}
 use Rattle.imap_grammar.specs.Astrings.{inside}
-use Rattle.imap_grammar.proofs.Choices.{choose, refuse}
+use Rattle.std.proofs.lemmas.Bool.{cond-false, cond-true}
 use Rattle.imap_grammar.proofs.Many.{with_front, front_first}
 
 module _ (text : List ℕ) where
@@ -26,34 +26,34 @@ module _ (text : List ℕ) where
   pub inside_behind : (bytes : List ℕ) (i : ℕ) → i < length text → is_escaped (here i) ≡ true → InsideTo bytes true i → InsideTo (bytes ++ here i ∷ []) false (i + 1)
   inside_behind bytes i lt e so_far =
       so_far ∙ ap (λ l. with_front bytes (inside true l)) (drop_more text i 0 lt)
-      ∙ ap (with_front bytes) (choose (is_escaped (here i)) _ _ e)
+      ∙ ap (with_front bytes) (cond-true (is_escaped (here i)) _ _ e)
       ∙ front_first bytes (here i) (inside false (drop (i + 1) text))
 
   pub behind_wrong : (bytes : List ℕ) (i : ℕ) → i < length text → is_escaped (here i) ≡ false → InsideTo bytes true i → inside false text ≡ wrong (drop i text)
   behind_wrong bytes i lt e so_far =
       so_far ∙ ap (λ l. with_front bytes (inside true l)) (drop_more text i 0 lt)
-      ∙ ap (with_front bytes) (refuse (is_escaped (here i)) _ _ e) ∙ ap wrong (sym (drop_more text i 0 lt))
+      ∙ ap (with_front bytes) (cond-false (is_escaped (here i)) _ _ e) ∙ ap wrong (sym (drop_more text i 0 lt))
 
   pub inside_closed : (bytes : List ℕ) (i : ℕ) → i < length text → eqb (here i) 34 ≡ true → InsideTo bytes false i → inside false text ≡ got bytes (drop (i + 1) text)
   inside_closed bytes i lt e so_far =
       so_far ∙ ap (λ l. with_front bytes (inside false l)) (drop_more text i 0 lt)
-      ∙ ap (with_front bytes) (choose (eqb (here i) 34) _ _ e) ∙ ap (λ l. got l (drop (i + 1) text)) (append-nil bytes)
+      ∙ ap (with_front bytes) (cond-true (eqb (here i) 34) _ _ e) ∙ ap (λ l. got l (drop (i + 1) text)) (append-nil bytes)
 
   pub inside_slash : (bytes : List ℕ) (i : ℕ) → i < length text → eqb (here i) 34 ≡ false → eqb (here i) 92 ≡ true → InsideTo bytes false i → InsideTo bytes true (i + 1)
   inside_slash bytes i lt no_quote e so_far =
       so_far ∙ ap (λ l. with_front bytes (inside false l)) (drop_more text i 0 lt)
-      ∙ ap (with_front bytes) (refuse (eqb (here i) 34) _ _ no_quote ∙ choose (eqb (here i) 92) _ _ e)
+      ∙ ap (with_front bytes) (cond-false (eqb (here i) 34) _ _ no_quote ∙ cond-true (eqb (here i) 92) _ _ e)
 
   pub inside_more : (bytes : List ℕ) (i : ℕ) → i < length text → eqb (here i) 34 ≡ false → eqb (here i) 92 ≡ false → is_quotable (here i) ≡ true → InsideTo bytes false i → InsideTo (bytes ++ here i ∷ []) false (i + 1)
   inside_more bytes i lt no_quote no_slash e so_far =
       so_far ∙ ap (λ l. with_front bytes (inside false l)) (drop_more text i 0 lt)
-      ∙ ap (with_front bytes) (refuse (eqb (here i) 34) _ _ no_quote ∙ refuse (eqb (here i) 92) _ _ no_slash ∙ choose (is_quotable (here i)) _ _ e)
+      ∙ ap (with_front bytes) (cond-false (eqb (here i) 34) _ _ no_quote ∙ cond-false (eqb (here i) 92) _ _ no_slash ∙ cond-true (is_quotable (here i)) _ _ e)
       ∙ front_first bytes (here i) (inside false (drop (i + 1) text))
 
   pub inside_wrong : (bytes : List ℕ) (i : ℕ) → i < length text → eqb (here i) 34 ≡ false → eqb (here i) 92 ≡ false → is_quotable (here i) ≡ false → InsideTo bytes false i → inside false text ≡ wrong (drop i text)
   inside_wrong bytes i lt no_quote no_slash e so_far =
       so_far ∙ ap (λ l. with_front bytes (inside false l)) (drop_more text i 0 lt)
-      ∙ ap (with_front bytes) (refuse (eqb (here i) 34) _ _ no_quote ∙ refuse (eqb (here i) 92) _ _ no_slash ∙ refuse (is_quotable (here i)) _ _ e)
+      ∙ ap (with_front bytes) (cond-false (eqb (here i) 34) _ _ no_quote ∙ cond-false (eqb (here i) 92) _ _ no_slash ∙ cond-false (is_quotable (here i)) _ _ e)
       ∙ ap wrong (sym (drop_more text i 0 lt))
 
   pub inside_all : (bytes : List ℕ) (behind : Bool) (i : ℕ) → length text ≤ i → InsideTo bytes behind i → inside false text ≡ short

@@ -3,7 +3,7 @@ use Rattle.std.proofs.Common.{◌≡◌, ℕ, Bool, true, false, List, [], ◌�
 use Rattle.std.specs.List.{list_all}
 use Rattle.imap_grammar.specs.Grammar.{IsLineEnd}
 use Rattle.imap_grammar.specs.Reading.{Reading, got, and_then, gives, with_first, many, line_end, Reader}
-use Rattle.imap_grammar.proofs.Choices.{and_parts}
+use Rattle.std.proofs.lemmas.Bool.{and_parts}
 
 pub run_spelled : (is : ℕ → Bool) (bytes : List ℕ) (b : ℕ) (rest : List ℕ) → list_all is bytes ≡ true → is b ≡ false → many is (bytes ++ b ∷ rest) ≡ got bytes (b ∷ rest)
 run_spelled is [] b rest each stops = ap (λ c. if c then with_first b (many is rest) else got [] (b ∷ rest)) stops

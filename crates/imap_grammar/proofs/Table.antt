@@ -17,7 +17,7 @@ use Rattle.imap_grammar.specs.Reading.{Reading, got, wrong, short, Reader, and_t
 use Rattle.imap_grammar.specs.Astrings.{astring}
 use Rattle.imap_grammar.specs.LimitLists.{limits_closed}
 use Rattle.imap_grammar.specs.Commands.{word_named, word_of, checked_tag, tag_at, name_alone, name_and_limits, nothing_more, arguments_behind, is_allowed, allowed_arguments, arguments_of, command_at, all_read, command_in}
-use Rattle.imap_grammar.proofs.Choices.{choose, and_parts}
+use Rattle.std.proofs.lemmas.Bool.{and_parts, cond-true}
 use Rattle.imap_grammar.proofs.Takes.{Takes, Both, Run, Ends, takes_then, takes_weaker, takes_fails, takes_many, takes_ends, takes_next, behind}
 use Rattle.imap_grammar.proofs.Spelled.{run_spelled, end_spelled}
 use Rattle.imap_grammar.proofs.Names.{takes_astring, astring_spelled}
@@ -253,7 +253,7 @@ tag_spelled : (tag : List ℕ) (b : ℕ) (rest : List ℕ) → IsTag tag → is_
 tag_spelled tag b rest is stops =
     let fits : (ltb 0 (length tag) && leb (length tag) 64) ≡ true = both_true (ltb 0 (length tag)) (leb (length tag) 64) (lt-ltb 0 (length tag) is.some) (le-leb (length tag) 64 is.short) in
     ap (λ r. and_then r checked_tag) (run_spelled is_tag_byte tag b rest is.each stops)
-    ∙ ap (λ (reader : Reader (List ℕ)). reader (b ∷ rest)) (choose (ltb 0 (length tag) && leb (length tag) 64) (gives tag) fails fits)
+    ∙ ap (λ (reader : Reader (List ℕ)). reader (b ∷ rest)) (cond-true (ltb 0 (length tag) && leb (length tag) 64) (gives tag) fails fits)
   where
     both_true : (c d : Bool) → c ≡ true → d ≡ true → (c && d) ≡ true
     both_true c d e f = ap (λ x. x && d) e ∙ f

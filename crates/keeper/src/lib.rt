@@ -23,6 +23,3 @@ pub use memory::MemKeeper;
 pub use plan::{KeepCall, KeepFail};
 pub use rows::{FileRow, StoreRow};
 pub use stores::Stores;
-
-#[cfg(test)]
-mod tests;

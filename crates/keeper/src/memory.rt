@@ -53,7 +53,7 @@ impl MemKeeper {
     }
 
     /// How many calls other than `append_ledger` failed.
-    pub(crate) fn faults(&self) -> u64
+    pub fn faults(&self) -> u64
         ensures { result ≡ self.now.plan.faults }
     {
         self.plan.faults()

@@ -16,6 +16,3 @@ pub use laws::{one_reading, written_reads_back};
 pub use ledger_text::{LedgerFault, LedgerText, read_ledger};
 pub use printing::{print_definition, print_folded, print_line};
 pub use text::Text;
-
-#[cfg(test)]
-mod tests;

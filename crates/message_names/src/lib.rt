@@ -13,6 +13,3 @@ pub use laws::{one_size, renamed_reads_back, written_reads_back};
 pub use parts::{NameParts, parse_name};
 pub use sizes::size_of;
 pub use writing::{NameFault, print_name, with_flags};
-
-#[cfg(test)]
-mod tests;

@@ -7,8 +7,6 @@ mod root;
 mod root_set;
 mod roots;
 mod setup;
-#[cfg(test)]
-mod tests;
 
 pub use lists::{LimitsList, NameList};
 pub use mailbox::{canonical_name, canonical_spelling, is_mailbox_name};

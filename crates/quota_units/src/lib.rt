@@ -22,6 +22,3 @@ pub use name::{Name, NameError};
 pub use resource::{Resource, resource_named};
 pub use totals::{MOST, Totals, cut_sum};
 pub use units::units_up;
-
-#[cfg(test)]
-mod tests;

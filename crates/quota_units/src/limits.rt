@@ -118,28 +118,3 @@ pub fn limit_of_count(n: u64) -> Result<u64, LimitError>
     }
     Ok(n)
 }
-
-#[cfg(test)]
-mod tests {
-    use super::*;
-
-    #[test]
-    fn limits_are_refused_below_and_above_their_range(rt: HostRuntime) {
-        let most = 8796093022207;
-        let above = 8796093022208;
-        let table = [
-            (0, Err(LimitError::Zero), Err(LimitError::Zero)),
-            (1, Ok(1024), Ok(1)),
-            (most, Ok(9007199254739968), Ok(most)),
-            (
-                above,
-                Err(LimitError::TooLarge(above)),
-                Err(LimitError::TooLarge(above)),
-            ),
-        ];
-        for (n, units, count) in table {
-            assert_eq!(rt; limit_of_units(n), units);
-            assert_eq!(rt; limit_of_count(n), count);
-        }
-    }
-}

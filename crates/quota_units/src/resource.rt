@@ -22,26 +22,3 @@ pub fn resource_named(name: &[u8]) -> Option<Resource>
         None
     }
 }
-
-#[cfg(test)]
-mod tests {
-    use super::*;
-
-    #[test]
-    fn resources_are_named_in_any_case(rt: HostRuntime) {
-        let table: [(&[u8], Option<Resource>); 9] = [
-            (b"STORAGE", Some(Resource::Storage)),
-            (b"storage", Some(Resource::Storage)),
-            (b"StoragE", Some(Resource::Storage)),
-            (b"MESSAGE", Some(Resource::Message)),
-            (b"message", Some(Resource::Message)),
-            (b"MESSAGES", None),
-            (b"STORAG", None),
-            (b"MAILBOX", None),
-            (b"", None),
-        ];
-        for (name, expected) in table {
-            assert_eq!(rt; resource_named(name), expected);
-        }
-    }
-}

@@ -18,6 +18,3 @@ pub use laws::{
 pub use memory::{MemSink, MemSource};
 pub use real::{StdSink, StdSource};
 pub use source::{Sink, Source, send};
-
-#[cfg(test)]
-mod tests;

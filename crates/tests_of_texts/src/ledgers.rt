@@ -1,4 +1,7 @@
-use super::*;
+use maildirsize::{
+    LedgerFault, LedgerText, Text, definition_of, print_definition, print_folded, print_line,
+    read_ledger,
+};
 use quota_units::{Limits, Totals};
 use std::test::Fail;
 

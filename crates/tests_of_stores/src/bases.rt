@@ -1,5 +1,6 @@
 // Rows of roots, sets of roots and totals, one behind another.
-use super::{RootRow, RootRows, RootSets, TotalsList};
+
+use account_core::{RootRow, RootRows, RootSets, TotalsList, delivered_base};
 use quota_roots::{RootSpec, Roots};
 use quota_units::{Limits, Name, Totals};
 use std::test::Fail;
@@ -64,5 +65,23 @@ fn totals_stand_in_the_order_in_which_they_came(rt: HostRuntime) -> Result<(), F
     totals.push(first)?;
     totals.push(second)?;
     assert_eq!(rt; totals.as_slice(), [first, second].as_slice());
+    Ok(())
+}
+
+#[test]
+fn a_base_has_the_epoch_and_the_number(rt: HostRuntime) -> Result<(), Fail> {
+    let alloc = rt.alloc();
+    let table: [(u64, u64, &[u8]); 3] = [
+        (0, 1, b"0.1.quotad"),
+        (1700000000, 20, b"1700000000.20.quotad"),
+        (
+            18446744073709551615,
+            18446744073709551615,
+            b"18446744073709551615.18446744073709551615.quotad",
+        ),
+    ];
+    for (epoch, number, expected) in table {
+        assert_eq!(rt; delivered_base(alloc, epoch, number)?.as_slice(), expected);
+    }
     Ok(())
 }

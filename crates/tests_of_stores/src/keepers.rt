@@ -1,6 +1,9 @@
 ghost use Rattle.std.specs.Prelude.{◌<◌};
 
-use super::*;
+use keeper::{
+    Bytes, FixedKeeper, KeepCall, KeepError, KeepFail, Keeper, MemKeeper, MemStores, StoreRow,
+    Stores,
+};
 use quota_units::{Failed, Name};
 use std::alloc::Global;
 use std::process::Abort;

@@ -1,4 +1,4 @@
-use super::*;
+use message_names::{NameFault, parse_name, print_name, size_of, with_flags};
 use quota_units::Flags;
 use std::test::Fail;
 

@@ -1,6 +1,6 @@
 use Rattle.std.proofs.Common.{◌≡◌}
 use Rattle.account_lock.specs.Passes.{IsOf, view}
-use Rattle.account_lock.proofs.tests.make_calls.Given as goal
+use Rattle.tests_of_stores.proofs.turns.make_calls.Given as goal
 
 abbrev pub invariant-loop-number : goal.invariant-loop-number
 invariant-loop-number g l = record {

@@ -1,12 +1,11 @@
 ghost use Rattle.std.specs.Prelude.{◌<◌, ◌≤◌, None};
 
-use super::{
-    Failed, Feed, FeedEnd, LineEnd, MemSink, MemSource, Sink, Source, StdSink, StdSource, send,
-};
+use quota_units::Failed;
 use std::alloc::{AllocError, Global};
 use std::io;
 use std::io::{ErrorKind, Write};
 use std::test::Fail;
+use wire_io::{Feed, FeedEnd, LineEnd, MemSink, MemSource, Sink, Source, StdSink, StdSource, send};
 
 /// A source of this text, which fails one read, or none for 0.
 fn source(alloc: Global, text: &[u8], piece: usize, fail: u64) -> Result<MemSource, AllocError>
@@ -177,7 +176,6 @@ fn a_sink_in_memory_fails_when_told_and_when_full(rt: HostRuntime) -> Result<(),
         ("f", Err(Failed), "abcde"),
     ];
     for (offered, end, written) in cases {
-        assert!(rt; offered.len() > 0);
         assert_eq!(rt;
             sink.write(offered.as_bytes()),
             end,

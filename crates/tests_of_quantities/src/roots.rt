@@ -1,4 +1,6 @@
-use super::*;
+use quota_roots::{
+    LimitsList, NameList, RootSpec, Roots, RootsError, Setup, canonical_name, is_mailbox_name,
+};
 use quota_units::{Limits, Name, NameError};
 use std::alloc::Global;
 use std::test::Fail;

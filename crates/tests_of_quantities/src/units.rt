@@ -1,5 +1,9 @@
 // Worked values of units, names and numbers.
-use super::{Flags, Limits, Name, NameError, is_flag_letter, number_in, numeral_in, units_up};
+
+use quota_units::{
+    Flags, LimitError, Limits, Name, NameError, Resource, is_flag_letter, limit_of_count,
+    limit_of_units, number_in, numeral_in, resource_named, units_up,
+};
 use std::test::Fail;
 
 #[test]
@@ -97,5 +101,43 @@ fn other_bytes_among_letters_set_no_flag(rt: HostRuntime) {
     for letter in 0..=255u8 {
         assert_eq!(rt; flags.has(letter), letter == b'S' || letter == b'T');
         assert_eq!(rt; is_flag_letter(letter), b"DFPRST".contains(&letter));
+    }
+}
+
+#[test]
+fn limits_are_refused_below_and_above_their_range(rt: HostRuntime) {
+    let most = 8796093022207;
+    let above = 8796093022208;
+    let table = [
+        (0, Err(LimitError::Zero), Err(LimitError::Zero)),
+        (1, Ok(1024), Ok(1)),
+        (most, Ok(9007199254739968), Ok(most)),
+        (
+            above,
+            Err(LimitError::TooLarge(above)),
+            Err(LimitError::TooLarge(above)),
+        ),
+    ];
+    for (n, units, count) in table {
+        assert_eq!(rt; limit_of_units(n), units);
+        assert_eq!(rt; limit_of_count(n), count);
+    }
+}
+
+#[test]
+fn resources_are_named_in_any_case(rt: HostRuntime) {
+    let table: [(&[u8], Option<Resource>); 9] = [
+        (b"STORAGE", Some(Resource::Storage)),
+        (b"storage", Some(Resource::Storage)),
+        (b"StoragE", Some(Resource::Storage)),
+        (b"MESSAGE", Some(Resource::Message)),
+        (b"message", Some(Resource::Message)),
+        (b"MESSAGES", None),
+        (b"STORAG", None),
+        (b"MAILBOX", None),
+        (b"", None),
+    ];
+    for (name, expected) in table {
+        assert_eq!(rt; resource_named(name), expected);
     }
 }

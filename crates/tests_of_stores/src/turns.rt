@@ -6,8 +6,8 @@ ghost use Rattle.account_core.specs.Histories.{CallersBelow};
 ghost use Rattle.account_lock.specs.Known.{nowhere};
 ghost use Rattle.account_lock.specs.Passes.{IsOf, view};
 
-use super::{CloseFault, Full, Lock, LockFault, Pass};
 use account_core::{Booked, Call, Entry};
+use account_lock::{CloseFault, Full, Lock, Pass};
 use quota_units::{Name, NoMemory};
 use std::alloc::{AllocError, Global};
 use std::sync::Wait;

@@ -1,5 +1,6 @@
 // Openings of accounts whose files a keeper in memory tells.
-use super::*;
+
+use account_opening::{OpenError, admit_files};
 use keeper::{Bytes, KeepCall, KeepFail, MemKeeper, StoreRow};
 use quota_roots::{LimitsList, NameList, RootSpec, Roots, Setup};
 use quota_units::{Limits, Name};

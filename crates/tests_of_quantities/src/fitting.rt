@@ -1,4 +1,4 @@
-use super::*;
+use admission::{Verdict, admit};
 use quota_roots::{RootSpec, Roots};
 use quota_units::{Limits, Name, Resource, Totals};
 use std::test::Fail;
