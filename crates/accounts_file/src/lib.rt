@@ -23,6 +23,3 @@ pub use hosts::HostTable;
 pub use key::Key;
 pub use plain::plain_table;
 pub use settings::Settings;
-
-#[cfg(test)]
-mod tests;

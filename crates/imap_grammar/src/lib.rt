@@ -16,6 +16,3 @@ pub use command::{Command, CommandFault, read_command, read_tagged};
 pub use laws::{a_printed_name_reads_back, a_reading_is_the_grammar, each_text_is_one_command};
 pub use limits::{AskedLimit, AskedLimits};
 pub use print::push_astring;
-
-#[cfg(test)]
-mod tests;

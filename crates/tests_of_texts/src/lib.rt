@@ -1,6 +1,10 @@
-//! Tests of the texts that are read and written: ledgers and file names.
+//! Tests of the texts that are read and written: ledgers, file names, IMAP commands and accounts files.
 #![tactic(auto)]
 
+#[cfg(test)]
+mod accounts;
+#[cfg(test)]
+mod commands;
 #[cfg(test)]
 mod file_names;
 #[cfg(test)]

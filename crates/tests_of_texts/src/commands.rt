@@ -1,5 +1,5 @@
 // Lines that are commands, and lines that are none.
-use super::{Command, CommandFault, push_astring, read_command};
+use imap_grammar::{Command, CommandFault, push_astring, read_command};
 use std::alloc::Global;
 use std::test::Fail;
 

@@ -1,7 +1,7 @@
 // Worked files, and the refusals of others.
 ghost use Rattle.std.specs.Prelude.{◌<◌, length};
 
-use super::{AccountEntry, AccountsError, HostTable, Key, plain_table, read_accounts};
+use accounts_file::{AccountEntry, AccountsError, HostTable, Key, plain_table, read_accounts};
 use quota_roots::Roots;
 use quota_units::Limits;
 use std::alloc::Global;
