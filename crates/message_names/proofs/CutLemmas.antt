@@ -1,6 +1,5 @@
 -- What stands before and after the first separator.
-use Rattle.std.proofs.Common.{◌≡◌, ℕ, ◌+◌, ◌-◌, List, [], ◌∷◌, Bool, true, false, cond, not, length, take, drop, None, Some, refl, ap, ◌∙◌, sym, arith}
-use Rattle.std.proofs.Math.Numerals.{one-add, add-one}
+use Rattle.std.proofs.Common.{◌≡◌, ℕ, ◌+◌, ◌-◌, List, [], ◌∷◌, Bool, true, false, not, length, take, drop, None, Some, ap, ◌∙◌, sym, arith}
 use Rattle.std.specs.List.{position_or_len, before_first, after_first}
 use Rattle.std.proofs.lemmas.Bool.{cond-true, cond-false, false_from_ne_true, not_from_true, not_from_false}
 use Rattle.std.proofs.lemmas.List.{take_all, drop_all, take_rest}
