@@ -28,7 +28,7 @@ is_current() {
       if [ -d "$top/crates/$crate/$folder" ]; then sources+=("$top/crates/$crate/$folder"); fi
     done
   done
-  [ -z "$(find "${sources[@]}" -newer "$program" -print -quit)" ]
+  [ -z "$(find "${sources[@]}" -type f -newer "$program" -print -quit)" ]
 }
 
 # Ends the script with a message if the machine lacks a tool.

@@ -10,6 +10,137 @@ use std::process::Abort;
 use std::test::Fail;
 use std::{fs, io};
 
+// Steps in a tree `mail`, one a line: a call of the keeper of the account `ann`, or a look at the files, as another program has
+// it. After an arrow stands the answer, which is `ok` if none is named. In a text `;` is a line's end and `_` a space.
+
+/// A store is made where nothing was, and its calls do what they say.
+const STORE: &str = "list INBOX => 
+list Sent => 
+read 0 => none
+there ann => false
+put INBOX 1.mx,S=3 one
+put INBOX 2.mx:2,S four
+file ann/new/1.mx,S=3 => one
+file ann/cur/2.mx:2,S => four
+count ann/tmp => 0
+list INBOX => 1.mx,S=3 3;2.mx:2,S 4;
+rename INBOX 1.mx,S=3 INBOX 1.mx,S=3:2,S
+file ann/cur/1.mx,S=3:2,S => one
+rename INBOX 1.mx,S=3:2,S Sent.2026 1.mx,S=3:2,S
+file ann/.Sent.2026/cur/1.mx,S=3:2,S => one
+list INBOX => 2.mx:2,S 4;
+list Sent.2026 => 1.mx,S=3:2,S 3;
+remove INBOX 2.mx:2,S
+list INBOX => 
+faults => 0 0";
+
+/// Ledgers are replaced whole and appended to.
+const LEDGERS: &str = "install 0 0S;10_1;
+append 0 -10_-1;
+install 3 5C;
+append 1 7_1;
+file ann/maildirsize => 0S;10_1;-10_-1;
+file ann/maildirsize.1 => 7_1;
+file ann/maildirsize.3 => 5C;
+read 0 => 0S;10_1;-10_-1;
+read 1 => 7_1;
+read 2 => none
+install 0 0S;
+file ann/maildirsize => 0S;
+count ann/tmp => 0
+faults => 0 0";
+
+/// A ledger stays below 5120 octets, of which FULL are 5112; another program writes more.
+const ROOM: &str = "install 0 FULL
+append 0 1234_1;
+append 0 ; => failed
+faults => 0 1
+file ann/maildirsize => FULL1234_1;
+write ann/maildirsize FULL1234_1;FULL1234_1;
+append 0 1_1; => failed
+faults => 0 2
+file ann/maildirsize => FULL1234_1;FULL1234_1;
+install 0 0S;
+append 0 1_1;
+file ann/maildirsize => 0S;1_1;";
+
+/// A tree of other programs is read. A file of `cur` without flags is found there.
+const OTHERS: &str = "folder ann/new
+folder ann/cur
+folder ann/tmp
+folder ann/.Sent/cur
+folder ann/.Sent/new
+folder ann/.Trash.Old
+write ann/new/1700000001.M1P2.mx 12345
+write ann/new/1700000002.M1P2.mx,S=700,W=720 12
+write ann/cur/1700000003.M1P2.mx,S=40:2,FS 123
+write ann/cur/1700000004.M1P2.mx,W=9,S=8:2,
+write ann/cur/1700000005.M1P2.mx:2,RT 1234567
+write ann/cur/1700000006.M1P2.mx,S=:2,S 1
+write ann/cur/.nfs000001 12
+write ann/tmp/1700000007.M1P2.mx 12
+write ann/dovecot-uidlist 3
+write ann/subscriptions Sent
+write ann/maildirsize 1000S,10C;1234_6;
+write ann/.Sent/maildirfolder
+write ann/.Sent/cur/1700000008.M1P2.mx,S=5:2,S 12345
+write ann/.Trash.Old/maildirfolder
+list INBOX => 1700000001.M1P2.mx 5;1700000002.M1P2.mx,S=700,W=720 700;1700000003.M1P2.mx,S=40:2,FS 40;1700000004.M1P2.mx,W=9,S=8:2, 8;1700000005.M1P2.mx:2,RT 7;1700000006.M1P2.mx,S=:2,S 1;
+list Sent => 1700000008.M1P2.mx,S=5:2,S 5;
+list Trash.Old => 
+read 0 => 1000S,10C;1234_6;
+write ann/cur/9.mx nine
+rename INBOX 9.mx Trash.Old 9.mx
+file ann/.Trash.Old/new/9.mx => nine
+faults => 0 0";
+
+/// Files of `new` stand before those of `cur`.
+const ORDER: &str = "put INBOX 1.mx,S=3:2,S one
+put INBOX 2.mx,S=3 two
+first INBOX => 2.mx,S=3";
+
+/// A name that stands in `new` or `cur` is taken, and one that is not there, or has a file where a folder should be, is a
+/// fault. Nothing half-written is left.
+const TAKEN: &str = "put INBOX 1.mx one
+put INBOX 2.mx two
+move ann/new/2.mx ann/cur/2.mx
+put INBOX 1.mx x => failed
+put INBOX 2.mx x => failed
+rename INBOX 1.mx INBOX 2.mx => failed
+rename INBOX 1.mx INBOX 1.mx => failed
+rename INBOX 3.mx INBOX 4.mx => failed
+remove INBOX 3.mx => failed
+faults => 6 0
+list INBOX => 1.mx 3;2.mx 3;
+file ann/cur/2.mx => two
+write ann/.Lists
+list Lists => failed
+put Lists 1.mx x => failed
+folder ann/maildirsize
+read 0 => failed
+install 0 0S; => failed
+faults => 10 0
+append 0 1_1; => failed
+faults => 10 1
+count ann/tmp => 0";
+
+/// A draft that an earlier run left is replaced.
+const DRAFT: &str = "folder ann/tmp
+write ann/tmp/1.mx half_of_a_longer_one
+write ann/tmp/maildirsize 1000S;
+put INBOX 1.mx one
+install 0 0S;
+file ann/new/1.mx => one
+file ann/maildirsize => 0S;";
+
+/// Each call over a system that refuses all; `ANSWER` is what it refuses by.
+const REFUSED: &str = "list INBOX => ANSWER
+read 0 => ANSWER
+put INBOX 1.mx x => failed
+rename INBOX 1.mx INBOX 2.mx => failed
+remove INBOX 1.mx => failed
+install 0 0S; => failed";
+
 /// The keeper of the account `ann` below `mail`, which is made anew.
 fn ann(rt: HostRuntime) -> Result<FsKeeper<HostRuntime>, Fail> {
     let alloc = rt.alloc();
@@ -29,7 +160,7 @@ fn shown(alloc: Global, rows: &[FileRow]) -> Result<String, Fail> {
     let mut lines = Vec::new(alloc);
     for row in rows {
         let name = str::from_utf8(row.name.as_slice())?;
-        lines.push(format!(in alloc; "{name} {}\n", row.length)?)?;
+        lines.push(format!(in alloc; "{name} {};", row.length)?)?;
     }
     lines.sort()?;
     let mut text = String::new(alloc);
@@ -39,191 +170,239 @@ fn shown(alloc: Global, rows: &[FileRow]) -> Result<String, Fail> {
     Ok(text)
 }
 
-/// Checks the message files of a mailbox, given as lines of names and lengths in the order of the names.
-fn check_mailbox<K: Keeper>(
-    rt: &(impl Abort + AllocGlobal),
-    keeper: &mut K,
-    mailbox: &[u8],
-    expected: &str,
-) -> Result<(), Fail> {
-    let rows = keeper.list(rt.alloc(), mailbox)?;
-    let text = shown(rt.alloc(), rows.as_slice())?;
-    assert_eq!(rt; text.as_str(), expected);
-    Ok(())
+/// The text that a word of a step stands for.
+fn text_of(alloc: Global, word: &str) -> Result<String, Fail> {
+    Ok(word.replace(alloc, ";", "\n")?.replace(alloc, "_", " ")?)
 }
 
-/// Checks what a file holds.
-fn check_file(
-    rt: &(impl Abort + Files + AllocGlobal),
+/// The word that stands for a text.
+fn word_of(alloc: Global, text: &[u8]) -> Result<String, Fail> {
+    let text = str::from_utf8(text)?;
+    Ok(text.replace(alloc, "\n", ";")?.replace(alloc, " ", "_")?)
+}
+
+/// Why a call failed, if it did.
+fn told<T: Drop>(done: Result<T, KeepError>) -> &'static str {
+    match done {
+        Ok(_) => "ok",
+        Err(KeepError::Failed) => "failed",
+        Err(KeepError::NoMemory) => "no memory",
+    }
+}
+
+/// Whether a call failed.
+fn told_plainly(done: Result<(), Failed>) -> &'static str {
+    match done {
+        Ok(()) => "ok",
+        Err(Failed) => "failed",
+    }
+}
+
+/// The words of a step, up to five of them.
+fn words_of(step: &str) -> [&str; 5] {
+    let mut words = step.split(' ');
+    let verb = words.next().unwrap_or("");
+    let first = words.next().unwrap_or("");
+    let second = words.next().unwrap_or("");
+    let third = words.next().unwrap_or("");
+    let fourth = words.next().unwrap_or("");
+    [verb, first, second, third, fourth]
+}
+
+/// A step that makes a file, a folder or a new name, by no keeper.
+fn make(
+    rt: &(impl Files + AllocGlobal + Clone + Drop),
+    words: [&str; 5],
+) -> Result<&'static str, Fail> {
+    let [verb, path, other, _, _] = words;
+    let path = format!(in rt.alloc(); "mail/{path}")?;
+    match verb {
+        "folder" => fs::create_dir_all(rt, path.as_str())?,
+        "move" => fs::rename(
+            rt,
+            path.as_str(),
+            format!(in rt.alloc(); "mail/{other}")?.as_str(),
+        )?,
+        _ => fs::write(rt, path.as_str(), text_of(rt.alloc(), other)?.as_str())?,
+    }
+    Ok("ok")
+}
+
+/// A step that looks at what is there, by no keeper.
+fn look(
+    rt: &(impl Files + AllocGlobal + Clone + Drop),
+    verb: &str,
     path: &str,
-    expected: &str,
-) -> Result<(), Fail> {
-    let text = fs::read_to_string(rt, path)?;
-    assert_eq!(rt; text.as_str(), expected, "{path}");
-    Ok(())
+) -> Result<String, Fail> {
+    let alloc = rt.alloc();
+    let path = format!(in alloc; "mail/{path}")?;
+    match verb {
+        "file" => word_of(alloc, fs::read_to_string(rt, path.as_str())?.as_bytes()),
+        "count" => Ok(format!(in alloc; "{}", fs::read_dir(rt, path.as_str())?.count())?),
+        _ => Ok(format!(in alloc; "{}", fs::exists(rt, path.as_str())?)?),
+    }
 }
 
-/// Checks that a ledger holds a text, or is not there.
-fn check_ledger<K: Keeper>(
-    rt: &(impl Abort + AllocGlobal),
-    keeper: &mut K,
+/// A step that lists a mailbox.
+fn list<R: Files + AllocGlobal + Clone + Drop>(
+    alloc: Global,
+    keeper: &mut FsKeeper<R>,
+    verb: &str,
+    mailbox: &str,
+) -> Result<String, Fail> {
+    match keeper.list(alloc, mailbox.as_bytes()) {
+        Ok(rows) if verb == "list" => shown(alloc, rows.as_slice()),
+        Ok(rows) => match rows.as_slice() {
+            [row, ..] => word_of(alloc, row.name.as_slice()),
+            [] => Ok(String::new(alloc)),
+        },
+        Err(fault) => Ok(format!(in alloc; "{}", told::<()>(Err(fault)))?),
+    }
+}
+
+/// A step that changes message files.
+fn change<R: Files + AllocGlobal + Clone + Drop>(
+    alloc: Global,
+    keeper: &mut FsKeeper<R>,
+    words: [&str; 5],
+) -> &'static str {
+    let [verb, mailbox, name, third, fourth] = words;
+    let (mailbox, name, third) = (mailbox.as_bytes(), name.as_bytes(), third.as_bytes());
+    match verb {
+        "put" => told(keeper.put(alloc, mailbox, name, third)),
+        "rename" => told(keeper.rename(alloc, mailbox, name, third, fourth.as_bytes())),
+        _ => told_plainly(keeper.remove(mailbox, name)),
+    }
+}
+
+/// A step that writes a ledger.
+fn write_ledger<R: Files + AllocGlobal + Clone + Drop>(
+    keeper: &mut FsKeeper<R>,
+    verb: &str,
     root: u32,
-    expected: Option<&str>,
-) -> Result<(), Fail>
+    text: &[u8],
+) -> &'static str
     requires { root < 4 }
 {
-    let found = keeper.read_ledger(rt.alloc(), root)?;
-    let found = found.as_ref().map(|bytes| bytes.as_slice());
-    assert_eq!(rt; found, expected.map(|text| text.as_bytes()), "root {root}");
-    Ok(())
+    if verb == "append" {
+        return told_plainly(keeper.append_ledger(root, text));
+    }
+    if text.len() < 5120 {
+        return told_plainly(keeper.install_ledger(root, text));
+    }
+    "too long"
 }
 
-#[test]
-fn a_store_is_made_where_nothing_was_and_its_calls_do_what_they_say(
-    rt: HostRuntime,
+/// A step that reads a ledger.
+fn read_ledger<R: Files + AllocGlobal + Clone + Drop>(
+    alloc: Global,
+    keeper: &mut FsKeeper<R>,
+    root: u32,
+) -> Result<String, Fail>
+    requires { root < 4 }
+{
+    match keeper.read_ledger(alloc, root) {
+        Ok(Some(text)) => word_of(alloc, text.as_slice()),
+        Ok(None) => Ok(format!(in alloc; "none")?),
+        Err(fault) => Ok(format!(in alloc; "{}", told::<()>(Err(fault)))?),
+    }
+}
+
+/// Does a step and gives its answer.
+fn answer<R: Files + AllocGlobal + Clone + Drop>(
+    rt: &(impl Files + AllocGlobal + Clone + Drop),
+    keeper: &mut FsKeeper<R>,
+    words: [&str; 5],
+) -> Result<String, Fail> {
+    let alloc = rt.alloc();
+    let plain = match words[0] {
+        "file" | "count" | "there" => return look(rt, words[0], words[1]),
+        "list" | "first" => return list(alloc, keeper, words[0], words[1]),
+        "read" => return read_ledger(alloc, keeper, words[1].parse::<u32>()? % 4),
+        "install" | "append" => {
+            let text = text_of(alloc, words[2])?;
+            write_ledger(
+                keeper,
+                words[0],
+                words[1].parse::<u32>()? % 4,
+                text.as_bytes(),
+            )
+        }
+        "folder" | "move" | "write" => make(rt, words)?,
+        "faults" => {
+            let faults = keeper.faults();
+            let appends = keeper.append_faults();
+            return Ok(format!(in alloc; "{faults} {appends}")?);
+        }
+        _ => change(alloc, keeper, words),
+    };
+    Ok(format!(in alloc; "{plain}")?)
+}
+
+/// Does steps and checks their answers.
+fn check_steps<R: Files + AllocGlobal + Clone + Drop>(
+    rt: &(impl Abort + Files + AllocGlobal + Clone + Drop),
+    keeper: &mut FsKeeper<R>,
+    steps: &str,
 ) -> Result<(), Fail> {
-    let alloc = rt.alloc();
-    let mut keeper = handed_over(ann(rt)?);
-    // Nothing is there, and looking makes nothing.
-    check_mailbox(&rt, &mut keeper, b"INBOX", "")?;
-    check_mailbox(&rt, &mut keeper, b"Sent", "")?;
-    check_ledger(&rt, &mut keeper, 0, None)?;
-    assert!(rt; !fs::exists(&rt, "mail/ann")?);
-    // A file goes to `new`, or to `cur` where its name has flags.
-    keeper.put(alloc, b"INBOX", b"1.mx,S=3", b"one")?;
-    keeper.put(alloc, b"INBOX", b"2.mx:2,S", b"four")?;
-    check_file(&rt, "mail/ann/new/1.mx,S=3", "one")?;
-    check_file(&rt, "mail/ann/cur/2.mx:2,S", "four")?;
-    assert_eq!(rt; fs::read_dir(&rt, "mail/ann/tmp")?.count(), 0);
-    check_mailbox(&rt, &mut keeper, b"INBOX", "1.mx,S=3 3\n2.mx:2,S 4\n")?;
-    // New flags take a file from `new` to `cur`, and a move keeps its name.
-    keeper.rename(alloc, b"INBOX", b"1.mx,S=3", b"INBOX", b"1.mx,S=3:2,S")?;
-    check_file(&rt, "mail/ann/cur/1.mx,S=3:2,S", "one")?;
-    keeper.rename(
-        alloc,
-        b"INBOX",
-        b"1.mx,S=3:2,S",
-        b"Sent.2026",
-        b"1.mx,S=3:2,S",
-    )?;
-    check_file(&rt, "mail/ann/.Sent.2026/cur/1.mx,S=3:2,S", "one")?;
-    check_mailbox(&rt, &mut keeper, b"INBOX", "2.mx:2,S 4\n")?;
-    check_mailbox(&rt, &mut keeper, b"Sent.2026", "1.mx,S=3:2,S 3\n")?;
-    keeper.remove(b"INBOX", b"2.mx:2,S")?;
-    check_mailbox(&rt, &mut keeper, b"INBOX", "")?;
-    assert_eq!(rt; keeper.faults(), 0);
-    fs::remove_dir_all(&rt, "mail")?;
-    Ok(())
-}
-
-#[test]
-fn ledgers_are_replaced_whole_and_appended_to(rt: HostRuntime) -> Result<(), Fail> {
-    let mut keeper = ann(rt)?;
-    keeper.install_ledger(0, b"0S\n10 1\n")?;
-    keeper.append_ledger(0, b"-10 -1\n")?;
-    keeper.install_ledger(3, b"5C\n")?;
-    keeper.append_ledger(1, b"7 1\n")?;
-    check_file(&rt, "mail/ann/maildirsize", "0S\n10 1\n-10 -1\n")?;
-    check_file(&rt, "mail/ann/maildirsize.1", "7 1\n")?;
-    check_file(&rt, "mail/ann/maildirsize.3", "5C\n")?;
-    check_ledger(&rt, &mut keeper, 0, Some("0S\n10 1\n-10 -1\n"))?;
-    check_ledger(&rt, &mut keeper, 1, Some("7 1\n"))?;
-    check_ledger(&rt, &mut keeper, 2, None)?;
-    keeper.install_ledger(0, b"0S\n")?;
-    check_file(&rt, "mail/ann/maildirsize", "0S\n")?;
-    assert_eq!(rt; fs::read_dir(&rt, "mail/ann/tmp")?.count(), 0);
-    assert_eq!(rt; keeper.faults(), 0);
-    fs::remove_dir_all(&rt, "mail")?;
-    Ok(())
-}
-
-#[test]
-fn a_ledger_stays_below_its_room(rt: HostRuntime) -> Result<(), Fail> {
-    let alloc = rt.alloc();
-    let mut keeper = ann(rt)?;
-    let text = [b'x'; 5112];
-    keeper.install_ledger(0, &text)?;
-    keeper.append_ledger(0, b"1234 1\n")?;
-    // 5119 octets are there, and one more would be one too many.
-    assert_eq!(rt; keeper.append_ledger(0, b"\n"), Err(Failed));
-    assert_eq!(rt; (keeper.faults(), keeper.append_faults()), (0, 1));
-    let full = format!(in alloc; "{}1234 1\n", str::from_utf8(&text)?)?;
-    check_file(&rt, "mail/ann/maildirsize", full.as_str())?;
-    // Another program has written behind it.
-    let longer = format!(in alloc; "{full}{full}")?;
-    fs::write(&rt, "mail/ann/maildirsize", longer.as_str())?;
-    assert_eq!(rt; keeper.append_ledger(0, b"1 1\n"), Err(Failed));
-    assert_eq!(rt; (keeper.faults(), keeper.append_faults()), (0, 2));
-    check_file(&rt, "mail/ann/maildirsize", longer.as_str())?;
-    keeper.install_ledger(0, b"0S\n")?;
-    keeper.append_ledger(0, b"1 1\n")?;
-    check_file(&rt, "mail/ann/maildirsize", "0S\n1 1\n")?;
-    fs::remove_dir_all(&rt, "mail")?;
-    Ok(())
-}
-
-#[test]
-fn a_tree_of_other_programs_is_read(rt: HostRuntime) -> Result<(), Fail> {
-    let alloc = rt.alloc();
-    let mut keeper = ann(rt)?;
-    for folder in ["new", "cur", "tmp", ".Sent/cur", ".Sent/new", ".Trash.Old"] {
-        fs::create_dir_all(&rt, format!(in alloc; "mail/ann/{folder}")?)?;
+    for row in steps.lines() {
+        let (step, expected) = row.split_once(" => ").unwrap_or((row, "ok"));
+        let words = answer(rt, keeper, words_of(step))?;
+        assert_eq!(rt; words.as_str(), expected, "{step}");
     }
-    for (path, text) in [
-        ("new/1700000001.M1P2.mx", "12345"),
-        ("new/1700000002.M1P2.mx,S=700,W=720", "12"),
-        ("cur/1700000003.M1P2.mx,S=40:2,FS", "123"),
-        ("cur/1700000004.M1P2.mx,W=9,S=8:2,", ""),
-        ("cur/1700000005.M1P2.mx:2,RT", "1234567"),
-        ("cur/1700000006.M1P2.mx,S=:2,S", "1"),
-        ("cur/.nfs000001", "12"),
-        ("tmp/1700000007.M1P2.mx", "12"),
-        ("dovecot-uidlist", "3"),
-        ("subscriptions", "Sent"),
-        ("maildirsize", "1000S,10C\n1234 6\n"),
-        (".Sent/maildirfolder", ""),
-        (".Sent/cur/1700000008.M1P2.mx,S=5:2,S", "12345"),
-        (".Trash.Old/maildirfolder", ""),
-    ] {
-        fs::write(&rt, format!(in alloc; "mail/ann/{path}")?, text)?;
-    }
-    check_mailbox(
-        &rt,
-        &mut keeper,
-        b"INBOX",
-        "1700000001.M1P2.mx 5\n1700000002.M1P2.mx,S=700,W=720 700\n\
-        1700000003.M1P2.mx,S=40:2,FS 40\n1700000004.M1P2.mx,W=9,S=8:2, 8\n\
-        1700000005.M1P2.mx:2,RT 7\n1700000006.M1P2.mx,S=:2,S 1\n",
-    )?;
-    check_mailbox(&rt, &mut keeper, b"Sent", "1700000008.M1P2.mx,S=5:2,S 5\n")?;
-    check_mailbox(&rt, &mut keeper, b"Trash.Old", "")?;
-    check_ledger(&rt, &mut keeper, 0, Some("1000S,10C\n1234 6\n"))?;
-    // A file of `cur` without flags is found there.
-    fs::write(&rt, "mail/ann/cur/9.mx", "nine")?;
-    keeper.rename(alloc, b"INBOX", b"9.mx", b"Trash.Old", b"9.mx")?;
-    check_file(&rt, "mail/ann/.Trash.Old/new/9.mx", "nine")?;
-    assert_eq!(rt; keeper.faults(), 0);
-    fs::remove_dir_all(&rt, "mail")?;
     Ok(())
 }
 
 #[test]
-fn new_stands_before_cur(rt: HostRuntime) -> Result<(), Fail> {
-    let alloc = rt.alloc();
-    let mut keeper = ann(rt)?;
-    keeper.put(alloc, b"INBOX", b"1.mx,S=3:2,S", b"one")?;
-    keeper.put(alloc, b"INBOX", b"2.mx,S=3", b"two")?;
-    let rows = keeper.list(alloc, b"INBOX")?;
-    assert_eq!(rt; rows.len(), 2);
-    assert_eq!(rt; rows[0].name.as_slice(), b"2.mx,S=3".as_slice());
-    assert_eq!(rt; rows[1].name.as_slice(), b"1.mx,S=3:2,S".as_slice());
-    fs::remove_dir_all(&rt, "mail")?;
+fn trees_are_written_and_read_as_the_steps_say(rt: HostRuntime) -> Result<(), Fail> {
+    let full = "x".repeat(rt.alloc(), 5112)?;
+    for steps in [STORE, LEDGERS, ROOM, OTHERS, ORDER, TAKEN, DRAFT] {
+        let mut keeper = handed_over(ann(rt)?);
+        let steps = steps.replace(rt.alloc(), "FULL", full.as_str())?;
+        check_steps(&rt, &mut keeper, steps.as_str())?;
+        fs::remove_dir_all(&rt, "mail")?;
+    }
+    Ok(())
+}
+
+/// Makes a call of the keeper, of seven, with this name in it.
+fn call<R: Files + AllocGlobal + Clone + Drop>(
+    alloc: Global,
+    keeper: &mut FsKeeper<R>,
+    number: u64,
+    name: &[u8],
+) -> &'static str {
+    match number {
+        0 => told(keeper.list(alloc, name)),
+        1 => told(keeper.put(alloc, name, b"1.mx", b"x")),
+        2 => told(keeper.put(alloc, b"INBOX", name, b"x")),
+        3 => told(keeper.rename(alloc, b"INBOX", name, b"INBOX", b"1.mx")),
+        4 => told(keeper.rename(alloc, b"INBOX", b"1.mx", name, b"1.mx")),
+        5 => told_plainly(keeper.remove(b"INBOX", name)),
+        _ => told_plainly(keeper.remove(name, b"1.mx")),
+    }
+}
+
+/// Checks that each call with this name is a fault.
+fn check_astray(
+    rt: &(impl Abort + AllocGlobal),
+    keeper: &mut FsKeeper<HostRuntime>,
+    name: &[u8],
+) -> Result<(), Fail> {
+    for number in 0..7 {
+        let faults = keeper.faults();
+        assert_eq!(rt;
+            call(rt.alloc(), keeper, number, name),
+            "failed",
+            "call {number}"
+        );
+        assert_eq!(rt; keeper.faults().wrapping_sub(faults), 1, "call {number}");
+    }
     Ok(())
 }
 
 #[test]
 fn a_name_that_leads_elsewhere_is_a_fault_and_touches_nothing(rt: HostRuntime) -> Result<(), Fail> {
-    let alloc = rt.alloc();
     let mut keeper = ann(rt)?;
     for name in [
         b"".as_slice(),
@@ -236,110 +415,14 @@ fn a_name_that_leads_elsewhere_is_a_fault_and_touches_nothing(rt: HostRuntime) -
         b"a\0b",
         b"a\xff",
     ] {
-        assert_eq!(rt;
-            keeper.list(alloc, name).map(|rows| rows.len()),
-            Err(KeepError::Failed)
-        );
-        assert_eq!(rt;
-            keeper.put(alloc, name, b"1.mx", b"x"),
-            Err(KeepError::Failed)
-        );
-        assert_eq!(rt;
-            keeper.put(alloc, b"INBOX", name, b"x"),
-            Err(KeepError::Failed)
-        );
-        assert_eq!(rt;
-            keeper.rename(alloc, b"INBOX", name, b"INBOX", b"1.mx"),
-            Err(KeepError::Failed)
-        );
-        assert_eq!(rt;
-            keeper.rename(alloc, b"INBOX", b"1.mx", name, b"1.mx"),
-            Err(KeepError::Failed)
-        );
-        assert_eq!(rt; keeper.remove(b"INBOX", name), Err(Failed));
-        assert_eq!(rt; keeper.remove(name, b"1.mx"), Err(Failed));
+        check_astray(&rt, &mut keeper, name)?;
     }
-    assert_eq!(rt; keeper.faults(), 9 * 7);
-    assert_eq!(rt; fs::read_dir(&rt, "mail")?.count(), 0);
-    let mut stores = FsStores::new(rt, b"mail".to_vec(alloc)?);
-    assert_eq!(rt;
-        stores.open(alloc, b"../mail").map(|k| k.faults()),
-        Err(KeepError::Failed)
-    );
-    assert_eq!(rt;
-        stores.open(alloc, b"").map(|k| k.faults()),
-        Err(KeepError::Failed)
-    );
+    let mut stores = FsStores::new(rt, b"mail".to_vec(rt.alloc())?);
+    for account in [b"../mail".as_slice(), b""] {
+        assert_eq!(rt; told(stores.open(rt.alloc(), account)), "failed");
+    }
     assert_eq!(rt; stores.faults(), 2);
-    fs::remove_dir_all(&rt, "mail")?;
-    Ok(())
-}
-
-#[test]
-fn a_file_that_is_in_the_way_or_not_there_is_a_fault(rt: HostRuntime) -> Result<(), Fail> {
-    let alloc = rt.alloc();
-    let mut keeper = ann(rt)?;
-    keeper.put(alloc, b"INBOX", b"1.mx", b"one")?;
-    keeper.put(alloc, b"INBOX", b"2.mx", b"two")?;
-    fs::rename(&rt, "mail/ann/new/2.mx", "mail/ann/cur/2.mx")?;
-    // Names that stand in `new` or `cur` are taken.
-    assert_eq!(rt;
-        keeper.put(alloc, b"INBOX", b"1.mx", b"x"),
-        Err(KeepError::Failed)
-    );
-    assert_eq!(rt;
-        keeper.put(alloc, b"INBOX", b"2.mx", b"x"),
-        Err(KeepError::Failed)
-    );
-    assert_eq!(rt;
-        keeper.rename(alloc, b"INBOX", b"1.mx", b"INBOX", b"2.mx"),
-        Err(KeepError::Failed)
-    );
-    assert_eq!(rt;
-        keeper.rename(alloc, b"INBOX", b"1.mx", b"INBOX", b"1.mx"),
-        Err(KeepError::Failed)
-    );
-    // No file has this name.
-    assert_eq!(rt;
-        keeper.rename(alloc, b"INBOX", b"3.mx", b"INBOX", b"4.mx"),
-        Err(KeepError::Failed)
-    );
-    assert_eq!(rt; keeper.remove(b"INBOX", b"3.mx"), Err(Failed));
-    assert_eq!(rt; keeper.faults(), 6);
-    check_mailbox(&rt, &mut keeper, b"INBOX", "1.mx 3\n2.mx 3\n")?;
-    check_file(&rt, "mail/ann/cur/2.mx", "two")?;
-    // A file stands where a folder should, and nothing half-written is left.
-    fs::write(&rt, "mail/ann/.Lists", "")?;
-    assert_eq!(rt;
-        keeper.list(alloc, b"Lists").map(|rows| rows.len()),
-        Err(KeepError::Failed)
-    );
-    assert_eq!(rt;
-        keeper.put(alloc, b"Lists", b"1.mx", b"x"),
-        Err(KeepError::Failed)
-    );
-    fs::create_dir(&rt, "mail/ann/maildirsize")?;
-    assert!(rt; keeper.read_ledger(alloc, 0).is_err());
-    assert_eq!(rt; keeper.install_ledger(0, b"0S\n"), Err(Failed));
-    assert_eq!(rt; keeper.faults(), 10);
-    assert_eq!(rt; keeper.append_ledger(0, b"1 1\n"), Err(Failed));
-    assert_eq!(rt; (keeper.faults(), keeper.append_faults()), (10, 1));
-    assert_eq!(rt; fs::read_dir(&rt, "mail/ann/tmp")?.count(), 0);
-    fs::remove_dir_all(&rt, "mail")?;
-    Ok(())
-}
-
-#[test]
-fn a_draft_that_an_earlier_run_left_is_replaced(rt: HostRuntime) -> Result<(), Fail> {
-    let alloc = rt.alloc();
-    let mut keeper = ann(rt)?;
-    fs::create_dir_all(&rt, "mail/ann/tmp")?;
-    fs::write(&rt, "mail/ann/tmp/1.mx", "half of a longer one")?;
-    fs::write(&rt, "mail/ann/tmp/maildirsize", "1000S\n")?;
-    keeper.put(alloc, b"INBOX", b"1.mx", b"one")?;
-    keeper.install_ledger(0, b"0S\n")?;
-    check_file(&rt, "mail/ann/new/1.mx", "one")?;
-    check_file(&rt, "mail/ann/maildirsize", "0S\n")?;
+    assert_eq!(rt; fs::read_dir(&rt, "mail")?.count(), 0);
     fs::remove_dir_all(&rt, "mail")?;
     Ok(())
 }
@@ -410,58 +493,46 @@ impl Files for Refusing {
     }
 }
 
-/// The keeper of an account over such a system.
-fn refused(
-    rt: HostRuntime,
-    kind: ErrorKind,
-    names: &'static [u8],
-) -> Result<FsKeeper<Refusing>, Fail> {
+/// Checks the steps over such a system, and that a keeper with faults is one fault of its store.
+fn check_refused(
+    rt: &(impl Abort + Files + AllocGlobal + Clone + Drop),
+    refusing: Refusing,
+    steps: &str,
+    closed: u64,
+) -> Result<(), Fail> {
     let alloc = rt.alloc();
-    let mut stores = FsStores::new(Refusing { rt, kind, names }, b"mail".to_vec(alloc)?);
-    Ok(stores.open(alloc, b"ann")?)
+    let mut stores = FsStores::new(refusing, b"mail".to_vec(alloc)?);
+    let mut keeper = stores.open(alloc, b"ann")?;
+    check_steps(rt, &mut keeper, steps)?;
+    stores.close(b"ann", keeper);
+    assert_eq!(rt; stores.faults(), closed);
+    Ok(())
 }
 
 #[test]
 fn want_of_memory_alone_is_free_and_counted_where_a_call_has_no_answer_for_it(
     rt: HostRuntime,
 ) -> Result<(), Fail> {
-    let alloc = rt.alloc();
     for (kind, answer, faults) in [
-        (ErrorKind::PermissionDenied, KeepError::Failed, 6),
-        (ErrorKind::OutOfMemory, KeepError::NoMemory, 4),
+        (
+            ErrorKind::PermissionDenied,
+            "failed",
+            "faults => 6 0\nappend 0 1_1; => failed\nfaults => 6 1",
+        ),
+        (
+            ErrorKind::OutOfMemory,
+            "no memory",
+            "faults => 4 0\nappend 0 1_1; => failed\nfaults => 4 1",
+        ),
     ] {
-        let mut keeper = refused(rt, kind, b"")?;
-        assert_eq!(rt;
-            keeper.list(alloc, b"INBOX").map(|rows| rows.len()),
-            Err(answer)
-        );
-        assert_eq!(rt;
-            keeper.read_ledger(alloc, 0).map(|bytes| bytes.is_some()),
-            Err(answer)
-        );
-        assert_eq!(rt;
-            keeper.put(alloc, b"INBOX", b"1.mx", b"x"),
-            Err(KeepError::Failed)
-        );
-        assert_eq!(rt;
-            keeper.rename(alloc, b"INBOX", b"1.mx", b"INBOX", b"2.mx"),
-            Err(KeepError::Failed)
-        );
-        assert_eq!(rt; keeper.remove(b"INBOX", b"1.mx"), Err(Failed));
-        assert_eq!(rt; keeper.install_ledger(0, b"0S\n"), Err(Failed));
-        assert_eq!(rt; (keeper.faults(), keeper.append_faults()), (faults, 0));
-        assert_eq!(rt; keeper.append_ledger(0, b"1 1\n"), Err(Failed));
-        assert_eq!(rt; (keeper.faults(), keeper.append_faults()), (faults, 1));
-        let mut stores = FsStores::new(
-            Refusing {
-                rt,
-                kind,
-                names: b"",
-            },
-            b"mail".to_vec(alloc)?,
-        );
-        stores.close(b"ann", keeper);
-        assert_eq!(rt; stores.faults(), 1);
+        let steps = REFUSED.replace(rt.alloc(), "ANSWER", answer)?;
+        let steps = format!(in rt.alloc(); "{steps}\n{faults}")?;
+        let refusing = Refusing {
+            rt,
+            kind,
+            names: b"",
+        };
+        check_refused(&rt, refusing, steps.as_str(), 1)?;
     }
     Ok(())
 }
@@ -470,20 +541,26 @@ fn want_of_memory_alone_is_free_and_counted_where_a_call_has_no_answer_for_it(
 fn a_name_that_is_no_text_or_a_length_that_is_not_told_fails_the_listing(
     rt: HostRuntime,
 ) -> Result<(), Fail> {
-    let alloc = rt.alloc();
-    for (names, rows, faults) in [
+    for (names, steps, closed) in [
         (
             b"1.mx,S=3\0\xff,S=3\0".as_slice(),
-            Err(KeepError::Failed),
+            "list INBOX => failed\nfaults => 1 0",
             1,
         ),
-        (b"1.mx,S=3\x002.mx\0", Err(KeepError::Failed), 1),
+        (
+            b"1.mx,S=3\x002.mx\0",
+            "list INBOX => failed\nfaults => 1 0",
+            1,
+        ),
         // The length of a file whose name states it is not asked for. Each name stands in `new` and in `cur`.
-        (b".\0..\x001.mx,S=3\x002.mx,S=4:2,S\0.\xff\0", Ok(4), 0),
+        (
+            b".\0..\x001.mx,S=3\x002.mx,S=4:2,S\0.\xff\0",
+            "list INBOX => 1.mx,S=3 3;1.mx,S=3 3;2.mx,S=4:2,S 4;2.mx,S=4:2,S 4;\nfaults => 0 0",
+            0,
+        ),
     ] {
-        let mut keeper = refused(rt, ErrorKind::PermissionDenied, names)?;
-        assert_eq!(rt; keeper.list(alloc, b"INBOX").map(|rows| rows.len()), rows);
-        assert_eq!(rt; keeper.faults(), faults);
+        let kind = ErrorKind::PermissionDenied;
+        check_refused(&rt, Refusing { rt, kind, names }, steps, closed)?;
     }
     Ok(())
 }
