@@ -9,7 +9,7 @@ use Rattle.wire_io.specs.Work.{Does}
 use Rattle.wire_io.specs.Protocol.{Spells, IsFilled}
 use Rattle.imap_grammar.specs.Commands.{command_in}
 use Rattle.imap_grammar.specs.declared.command.Command.{Command}
-use Rattle.account_core.specs.History.{Book}
+use Rattle.quotactl.specs.Held.{Owned}
 use Rattle.quotactl.specs.Imap.{command, not_built, too_long, max_text, line_request, whole, work_of, imap}
 use Rattle.imap_grammar.specs.declared.command.Command.TheVariants.{Logout}
 use Rattle.quotactl.specs.Texts.{not_built_text, logout_text}
@@ -93,7 +93,7 @@ imap_filled = record {
 }
 
 -- a command with its tag, and the line that it is
-pub line_command : (account account' : Book) (line text : List ℕ) (n : ℕ) (body : Command) (after : After) → IsLine line → length line ≤ max_text
+pub line_command : (account account' : Owned) (line text : List ℕ) (n : ℕ) (body : Command) (after : After) → IsLine line → length line ≤ max_text
     → command_in true line ≡ Some (record { tag = take n line; command = body }) → AnswersCommand account account' (take n line) body text after → Answered account account' line text after
 line_command account account' line text n body after is le read (log, does, owns) = record {
   x = record { bytes = line; request = command (record { tag = take n line; command = body }); log = log; text = text };
@@ -103,7 +103,7 @@ line_command account account' line text n body after is le read (log, does, owns
   owned = owns;
 }
 
-pub leave_command : (account account' : Book) (line : List ℕ) (n : ℕ) (body : Command) → IsLine line → length line ≤ max_text
+pub leave_command : (account account' : Owned) (line : List ℕ) (n : ℕ) (body : Command) → IsLine line → length line ≤ max_text
     → command_in true line ≡ Some (record { tag = take n line; command = body }) → LeavesCommand account account' (take n line) body → Abandoned account account' line
 leave_command account account' line n body is le read (log, owns, begins) = record {
   log = log;
@@ -111,7 +111,7 @@ leave_command account account' line n body is le read (log, owns, begins) = reco
   begun = inr (command (record { tag = take n line; command = body }), subst (λ o. Spells imap tt line (line_request o)) read (spells_line line is le), begins);
 }
 
-pub line_not_built : (account : Book) (line text : List ℕ) → IsLine line → length line ≤ max_text → command_in true line ≡ None → text ≡ not_built_text → Answered account account line text Open
+pub line_not_built : (account : Owned) (line text : List ℕ) → IsLine line → length line ≤ max_text → command_in true line ≡ None → text ≡ not_built_text → Answered account account line text Open
 line_not_built account line text is le read e = record {
   x = record { bytes = line; request = not_built; log = []; text = text };
   exchange = record { answer = text; spelled = subst (λ o. Spells imap tt line (line_request o)) read (spells_line line is le); worked = (e, refl); written = refl };
@@ -120,11 +120,11 @@ line_not_built account line text is le read e = record {
   owned = owns_same account;
 }
 
-pub abandoned_nothing : (account : Book) (line : List ℕ) → Abandoned account account line
+pub abandoned_nothing : (account : Owned) (line : List ℕ) → Abandoned account account line
 abandoned_nothing account line = record { log = []; owned = owns_same account; begun = inl refl }
 
-pub logout_answers : (account : Book) (tag text : List ℕ) (body : Command) → body ≡ Logout → text ≡ logout_text tag → AnswersCommand account account tag body text Closing
+pub logout_answers : (account : Owned) (tag text : List ℕ) (body : Command) → body ≡ Logout → text ≡ logout_text tag → AnswersCommand account account tag body text Closing
 logout_answers account tag text body is e = ([], subst (λ (k : Command). Does (work_of tag k) [] text Closing) (sym is) (e, refl), owns_same account)
 
-pub leaves_command : (account : Book) (tag : List ℕ) (body : Command) → LeavesCommand account account tag body
+pub leaves_command : (account : Owned) (tag : List ℕ) (body : Command) → LeavesCommand account account tag body
 leaves_command account tag body = ([], owns_same account, tt)

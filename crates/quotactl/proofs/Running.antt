@@ -14,7 +14,8 @@ use Rattle.wire_io.proofs.Cuts.{some_byte}
 use Rattle.wire_io.proofs.Deciding.{end_decided}
 use Rattle.wire_io.proofs.Endings.{has_end}
 use Rattle.account_core.specs.declared.calls.Call.{Call}
-use Rattle.account_core.specs.History.{Answer, Book}
+use Rattle.account_core.specs.History.{Answer}
+use Rattle.quotactl.specs.Held.{Owned}
 use Rattle.quotactl.specs.Imap.{Request, imap}
 use Rattle.quotactl.specs.Texts.{greeting}
 use Rattle.quotactl.specs.Serving.{input_limit, Owns, TakesRequest, ServesRequest, IsServed, IsSession}
@@ -22,7 +23,7 @@ use Rattle.quotactl.proofs.Owning.{owns_same, owns_append}
 use Rattle.quotactl.proofs.Lines.{imap_filled}
 use Rattle.quotactl.proofs.OneWay.{imap_one_way}
 
-module _ (left left' written written' : Option (List ℕ)) (waiting waiting' : List ℕ) (taken taken' at at' : ℕ) (account account' : Book) (text : List ℕ) where
+module _ (left left' written written' : Option (List ℕ)) (waiting waiting' : List ℕ) (taken taken' at at' : ℕ) (account account' : Owned) (text : List ℕ) where
   -- the answer was written
   pub serve_sent : (after : After) → TakesRequest left left' waiting waiting' taken taken' at at' account account' text (Ok after) → Appends written written' text
       → ServesRequest left left' written written' waiting waiting' taken taken' at at' account account' (Ok after)
@@ -84,7 +85,7 @@ module _ (left left' written written' : Option (List ℕ)) (waiting waiting' : L
       omega (arith, t.counts, sized)
 
 -- what a session did so far: whole requests, answered, and the session went on after each
-pub record Reached (left left' written written' : Option (List ℕ)) (waiting' : List ℕ) (taken' at' : ℕ) (account account' : Book) : Type 0 where
+pub record Reached (left left' written written' : Option (List ℕ)) (waiting' : List ℕ) (taken' at' : ℕ) (account account' : Owned) : Type 0 where
   pub exchanges : List (Exchange Request Call Answer)
   pub outlived : Exchanges imap tt exchanges tt
   pub hands : Hands left left' [] waiting' 0 taken' (bytes_of exchanges)
@@ -92,7 +93,7 @@ pub record Reached (left left' written written' : Option (List ℕ)) (waiting' :
   pub owned : Owns account account' (log_of exchanges)
   pub appended : Appends written written' (text_of exchanges)
 
-module _ (left written : Option (List ℕ)) (account : Book) where
+module _ (left written : Option (List ℕ)) (account : Owned) where
   pub reached_start : (waiting : List ℕ) (taken at : ℕ) → waiting ≡ [] → taken ≡ 0 → at ≡ 0 → Reached left left written written waiting taken at account account
   reached_start waiting taken at none zero_taken zero_at = record {
     exchanges = [];
@@ -119,7 +120,7 @@ text_push : (xs : List (Exchange Request Call Answer)) (x : Exchange Request Cal
 text_push [] x = append-nil x.text
 text_push (y ∷ xs) x = ap (λ l. y.text ++ l) (text_push xs x) ∙ sym (append_assoc y.text (text_of xs) x.text)
 
-module _ (left mid left' written sent written' : Option (List ℕ)) (waiting waiting' : List ℕ) (taken taken' at at' : ℕ) (account between account' : Book) where
+module _ (left mid left' written sent written' : Option (List ℕ)) (waiting waiting' : List ℕ) (taken taken' at at' : ℕ) (account between account' : Owned) where
   -- one request more, after which the session goes on
   pub reached_more : Reached left mid written sent waiting taken at account between → ServesRequest mid left' sent written' waiting waiting' taken taken' at at' between account' (Ok Open)
       → Reached left left' written written' waiting' taken' at' account account'
@@ -183,7 +184,7 @@ module _ (left mid left' written sent written' : Option (List ℕ)) (waiting wai
   reached_stop r s within = served_by Stopped r s.given s.log s.text s.hands s.owned s.appended within (finishes Stopping s)
 
 -- the greeting, and then the rest
-pub greeted : (left left' written greeted written' : Option (List ℕ)) (account account' : Book) (end : SessionEnd) → Appends written greeted greeting
+pub greeted : (left left' written greeted written' : Option (List ℕ)) (account account' : Owned) (end : SessionEnd) → Appends written greeted greeting
     → IsServed left left' greeted written' account account' end → IsSession left left' written written' account account' end
 greeted left left' written met written' account account' end hello s = record {
   taken = s.taken;
@@ -196,7 +197,7 @@ greeted left left' written met written' account account' end hello s = record {
 }
 
 -- or a front of it alone
-pub not_greeted : (left written written' : Option (List ℕ)) (account : Book) → AppendsPart written written' greeting → IsSession left left written written' account account WriteFault
+pub not_greeted : (left written written' : Option (List ℕ)) (account : Owned) → AppendsPart written written' greeting → IsSession left left written written' account account WriteFault
 not_greeted left written written' account part = record {
   taken = [];
   log = [];
@@ -208,7 +209,7 @@ not_greeted left written written' account part = record {
 }
 
 -- the same, by what the session does after the request
-module _ (left mid left' written sent written' : Option (List ℕ)) (waiting waiting' : List ℕ) (taken taken' at at' : ℕ) (account between account' : Book) (after : After)
+module _ (left mid left' written sent written' : Option (List ℕ)) (waiting waiting' : List ℕ) (taken taken' at at' : ℕ) (account between account' : Owned) (after : After)
     (r : Reached left mid written sent waiting taken at account between) (s : ServesRequest mid left' sent written' waiting waiting' taken taken' at at' between account' (Ok after)) where
   pub goes_on : after ≡ Open → Reached left left' written written' waiting' taken' at' account account'
   goes_on is = reached_more left mid left' written sent written' waiting waiting' taken taken' at at' account between account' r
@@ -219,7 +220,7 @@ module _ (left mid left' written sent written' : Option (List ℕ)) (waiting wai
       (subst (λ (a : After). ServesRequest mid left' sent written' waiting waiting' taken taken' at at' between account' (Ok a)) is s) within
 
 -- where nothing failed, the input decides the end
-pub decided_by : (left left' written written' : Option (List ℕ)) (account account' : Book) (end : SessionEnd) (R W : Type 0) → IsSession left left' written written' account account' end
+pub decided_by : (left left' written written' : Option (List ℕ)) (account account' : Owned) (end : SessionEnd) (R W : Type 0) → IsSession left left' written written' account account' end
     → (end ≡ ReadFault → R) → (end ≡ WriteFault → W)
     → IfSome left (λ input. EndsAsDecided imap input_limit input (R ⊎ W) end)
 decided_by None left' written written' account account' end R W s read write = tt
@@ -231,7 +232,7 @@ decided_by (Some input) (Some rest) written written' account account' end R W s 
 }
 
 -- the same session, of a source that is known by another name
-pub session_of : (left given left' kept written written' : Option (List ℕ)) (account account' : Book) (end : SessionEnd) → given ≡ left → kept ≡ left'
+pub session_of : (left given left' kept written written' : Option (List ℕ)) (account account' : Owned) (end : SessionEnd) → given ≡ left → kept ≡ left'
     → IsSession given left' written written' account account' end → IsSession left kept written written' account account' end
 session_of left given left' kept written written' account account' end e f s =
     subst (λ l. IsSession left l written written' account account' end) (sym f) (subst (λ l. IsSession l left' written written' account account' end) e s)

@@ -15,7 +15,7 @@ use Rattle.wire_io.specs.Protocol.{IsRest}
 use Rattle.wire_io.specs.Session.{Ends, Waits}
 use Rattle.wire_io.proofs.Cuts.{rest_of, NoneWhole}
 use Rattle.imap_grammar.specs.Commands.{command_in}
-use Rattle.account_core.specs.History.{Book}
+use Rattle.quotactl.specs.Held.{Owned}
 use Rattle.quotactl.specs.Imap.{too_long, max_text, line_request, imap}
 use Rattle.quotactl.specs.Texts.{too_long_text}
 use Rattle.quotactl.specs.Serving.{input_limit, Answered, Abandoned, TakesRequest, end_at}
@@ -34,9 +34,9 @@ begun_rest given begun = rest_of imap imap_filled tt given none
 begun_waits : (given : List ℕ) → IsBegun given max_text → Waits imap tt (given ++ []) [] []
 begun_waits given begun = subst (λ l. Waits imap tt l [] []) (sym (append-nil given)) (record { less = begun_rest given begun; no_calls = refl; prompted = refl })
 
-module _ (left left' : Option (List ℕ)) (waiting waiting' : List ℕ) (taken taken' at at' : ℕ) (account : Book) (given : List ℕ)
+module _ (left left' : Option (List ℕ)) (waiting waiting' : List ℕ) (taken taken' at at' : ℕ) (account : Owned) (given : List ℕ)
     (hands : Hands left left' waiting waiting' taken taken' given) (counts : at' ≡ at + length given) where
-  pub take_answered : (account' : Book) (text : List ℕ) (after : After) → Answered account account' given text after
+  pub take_answered : (account' : Owned) (text : List ℕ) (after : After) → Answered account account' given text after
       → TakesRequest left left' waiting waiting' taken taken' at at' account account' text (Ok after)
   take_answered account' text after a = record {
     given = given;
@@ -47,7 +47,7 @@ module _ (left left' : Option (List ℕ)) (waiting waiting' : List ℕ) (taken t
     comes = (a.x, a.exchange, sym a.bytes_is, refl, sym a.text_is);
   }
 
-  pub take_abandoned : (account' : Book) (text : List ℕ) → IsLine given → length given ≤ max_text → Abandoned account account' given
+  pub take_abandoned : (account' : Owned) (text : List ℕ) → IsLine given → length given ≤ max_text → Abandoned account account' given
       → TakesRequest left left' waiting waiting' taken taken' at at' account account' text (Err NoMemory)
   take_abandoned account' text line le a = record {
     given = given;

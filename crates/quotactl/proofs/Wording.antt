@@ -5,7 +5,7 @@ use Rattle.wire_io.specs.declared.ends.After.TheVariants.{Open}
 use Rattle.quota_units.specs.declared.memory.NoMemory.{NoMemory}
 use Rattle.imap_grammar.specs.declared.command.Command.{Command}
 use Rattle.account_core.specs.declared.calls.Call.{Call}
-use Rattle.account_core.specs.History.{Book}
+use Rattle.quotactl.specs.Held.{Owned}
 use Rattle.quota_units.specs.declared.name.NameError.{NameError}
 use Rattle.quota_units.specs.declared.name.NameError.TheVariants.{TooLong, NoMemory as NoNameMemory}
 use Rattle.quota_units.specs.Limiting.{LimitNumbers}
@@ -20,7 +20,7 @@ use Rattle.quotactl.specs.Serving.{AnswersCommand}
 use Rattle.quotactl.proofs.Owning.{owns_same}
 
 -- a text alone
-pub said : (account : Book) (tag text words : List ℕ) (command : Command) (result : Result (Unit {0}) NoMemory) → work_of tag command ≡ say words Open → OnOk result (text ≡ words)
+pub said : (account : Owned) (tag text words : List ℕ) (command : Command) (result : Result (Unit {0}) NoMemory) → work_of tag command ≡ say words Open → OnOk result (text ≡ words)
     → OnOk result (AnswersCommand account account tag command text Open)
 said account tag text words command (Ok u) e is = ([], subst (λ w. Does w [] text Open) (sym e) (is, refl), owns_same account)
 said account tag text words command (Err e) is f = tt

@@ -1,12 +1,17 @@
 -- What the program does with its words.
 use Rattle.std.specs.Prelude.{◌≡◌, ◌*◌, ℕ, List, [], codes, Option, Some, None}
+use Rattle.quota_units.specs.Limiting.{LimitNumbers}
 use Rattle.std.specs.Io.KnownBytes.{Appends, Keeps}
 use Rattle.wire_io.specs.Sending.{AppendsPart}
-use Rattle.wire_io.specs.Transcript.{Transcript, transcript}
+use Rattle.wire_io.specs.Transcript.{Answers, Transcript, transcript}
 use Rattle.wire_io.specs.declared.ends.SessionEnd.{SessionEnd}
 use Rattle.wire_io.specs.declared.ends.SessionEnd.TheVariants.{Closed, Stopped, Truncated, InputLimit, ReadFault, WriteFault, NoMemory}
-use Rattle.account_core.specs.History.{Book}
-use Rattle.quotactl.specs.Plain.{plain_opened}
+use Rattle.account_core.specs.declared.calls.Call.{Call}
+use Rattle.account_core.specs.declared.calls.Entry.{Entry}
+use Rattle.account_core.specs.History.{Answer}
+use Rattle.accounts_file.specs.Hosts.{plain_roots, plain_setup}
+use Rattle.quotactl.specs.Plain.{plain_account, plain_origin}
+use Rattle.quotactl.specs.Held.{Owned}
 use Rattle.quotactl.specs.Imap.{imap}
 use Rattle.quotactl.specs.Owner.{owner}
 use Rattle.quotactl.specs.Serving.{input_limit, IsSession}
@@ -26,18 +31,24 @@ status_of NoMemory = 6
 abbrev pub usage_line : List ℕ
 usage_line = codes "usage: quotactl session N | imap [ACCOUNT] | jmap | policy | recalc ACCOUNT | check | workload N\n"
 
+abbrev pub units_of_storage : ℕ → LimitNumbers
+units_of_storage n = record { octets = Some (1024 * n); count = None }
+
 -- an account with so many units of storage, before its first call
-abbrev pub fresh : ℕ → Book
-fresh n = record { opened = plain_opened (record { octets = Some (1024 * n); count = None }); history = [] }
+abbrev pub fresh : ℕ → Owned
+fresh n = record { origin = plain_origin (units_of_storage n); history = [] }
+
+abbrev pub fresh_owner : ℕ → Answers (List Entry) Call Answer
+fresh_owner n = owner plain_roots (plain_setup (units_of_storage n)).journal (plain_account (units_of_storage n))
 
 -- the session of such an account that an input gives
 abbrev pub session_of : ℕ → List ℕ → Transcript
-session_of n input = transcript imap owner input_limit (fresh n) input
+session_of n input = transcript imap (fresh_owner n) input_limit [] input
 
 -- what comes of an account with so many units, and of a session of it
 pub data Runs (left left' written written' : Option (List ℕ)) (n status : ℕ) : Type 0 where
   -- the session was served to its end
-  served : (account' : Book) (end : SessionEnd) → IsSession left left' written written' (fresh n) account' end → status ≡ status_of end → Runs left left' written written' n status
+  served : (account' : Owned) (end : SessionEnd) → IsSession left left' written written' (fresh n) account' end → status ≡ status_of end → Runs left left' written written' n status
   -- there was no memory for the account
   no_account : Keeps left left' → Keeps written written' → status ≡ 6 → Runs left left' written written' n status
 

@@ -1,28 +1,25 @@
--- The state that a session's account keeps, as a book: what it was opened with, and its entries since.
-use Rattle.std.specs.Prelude.{◌≡◌, None, Some, unwrap_or}
-use Rattle.quota_units.specs.Limiting.{LimitNumbers}
+-- The account of a session as contracts see it: where its history begins, and its entries since.
+use Rattle.std.specs.Prelude.{◌≡◌, List, Some}
 use Rattle.account_core.specs.declared.calls.Call.{Call}
 use Rattle.account_core.specs.declared.calls.Call.TheVariants.{Quota, SetLimits, Roots}
-use Rattle.account_core.specs.Account.{Account, Opened}
-use Rattle.account_core.specs.History.{Book}
-use Rattle.account_ledger.specs.States.{State}
+use Rattle.account_core.specs.declared.calls.Entry.{Entry}
+use Rattle.account_core.specs.Account.{Account}
+use Rattle.account_core.specs.Histories.{Origin}
+use Rattle.account_ledger.specs.States.{State, origin_of}
 use Rattle.accounts_file.specs.Hosts.{plain_roots}
-use Rattle.quotactl.specs.Plain.{plain_account}
 
-abbrev no_limits : LimitNumbers
-no_limits = record { octets = None; count = None }
+pub record Owned : Type 0 where
+  pub origin : Origin
+  pub history : List Entry
 
-abbrev pub opened_of : State → Opened
-opened_of s = record { roots = s.setup.roots; journal = s.setup.journal; account = unwrap_or s.opening (plain_account no_limits) }
-
-abbrev pub book_of : State → Book
-book_of s = record { opened = opened_of s; history = s.history }
+abbrev pub owned_of : State → Owned
+owned_of s = record { origin = origin_of s; history = s.history }
 
 -- the account has the one root of the empty name, and its store told what it was opened with
-pub record IsHeld (s : State) : Type 0 where
-  pub roots : s.setup.roots ≡ plain_roots
-  pub account : Account
-  pub opening : s.opening ≡ Some account
+pub record IsHeld (owned : Owned) : Type 0 where
+  pub roots : owned.origin.roots ≡ plain_roots
+  pub opening : Account
+  pub told : owned.origin.account ≡ Some opening
 
 -- the calls that a session makes
 abbrev pub IsAsked : Call → Type 0

@@ -1,15 +1,19 @@
--- The account with its one owner, as a world that the owner's calls alone change.
-use Rattle.std.specs.Prelude.{Bool, false, nat_le, if◌then◌else◌, [], ◌∷◌, ◌++◌, length}
+-- The account with its one owner, as a world that the owner's calls alone change: its history.
+use Rattle.std.specs.Prelude.{ℕ, Bool, false, nat_le, if◌then◌else◌, List, [], ◌∷◌, ◌++◌, length}
 use Rattle.wire_io.specs.Transcript.{Answers}
+use Rattle.quota_roots.specs.declared.root.RootSpec.{RootSpec}
 use Rattle.account_core.specs.declared.calls.Call.{Call}
-use Rattle.account_core.specs.History.{Answer, replied, journal_full, Book, reply, entry_of}
+use Rattle.account_core.specs.declared.calls.Entry.{Entry}
+use Rattle.account_core.specs.Account.{Account}
+use Rattle.account_core.specs.History.{Answer, replied, journal_full, reply, entry_of}
 
-abbrev pub is_full : Book → Bool
-is_full book = nat_le book.opened.journal (length book.history)
+abbrev pub is_full : ℕ → List Entry → Bool
+is_full journal history = nat_le journal (length history)
 
--- what a call is answered now, and the account then: each call is an entry, up to the journal's limit
-abbrev pub owner : Answers Book Call Answer
-owner = record {
-  answer = λ book call. if is_full book then journal_full else replied (reply book.opened book.history call);
-  after = λ book call. if is_full book then book else record book { history = book.history ++ entry_of 0 call false ∷ [] };
+-- What a call is answered after a history, and the history then, of an account with these roots that was
+-- so when it was opened: each call is an entry, up to the journal's limit.
+abbrev pub owner : List RootSpec → (journal : ℕ) → (opening : Account) → Answers (List Entry) Call Answer
+owner roots journal opening = record {
+  answer = λ history call. if is_full journal history then journal_full else replied (reply roots opening history call);
+  after = λ history call. if is_full journal history then history else history ++ entry_of 0 call false ∷ [];
 }

@@ -1,5 +1,5 @@
 -- What a session does to its account, its source and its sink.
-use Rattle.std.specs.Prelude.{◌≡◌, ◌≢◌, ◌⊎◌, ◌+◌, ℕ, zero, suc, true, false, List, [], ◌∷◌, ◌++◌, length, Option, Result, Ok, Err}
+use Rattle.std.specs.Prelude.{◌≡◌, ◌≢◌, ◌⊎◌, ◌+◌, ℕ, zero, suc, List, [], ◌∷◌, ◌++◌, length, Option, Result, Ok, Err}
 use Rattle.std.specs.Io.KnownBytes.{Consumes, Appends, IsAtEnd}
 use Rattle.wire_io.specs.declared.ends.After.{After}
 use Rattle.wire_io.specs.declared.ends.SessionEnd.{SessionEnd}
@@ -12,8 +12,9 @@ use Rattle.wire_io.specs.Protocol.{Spells}
 use Rattle.wire_io.specs.Session.{Exchange, IsExchange, Ends, IsWorked, Session}
 use Rattle.imap_grammar.specs.declared.command.Command.{Command}
 use Rattle.account_core.specs.declared.calls.Call.{Call}
-use Rattle.account_core.specs.declared.calls.Entry.{Entry}
-use Rattle.account_core.specs.History.{Answer, replied, store, journal_full, Book, AreNone, Logged, entry_of}
+use Rattle.account_core.specs.History.{Answer, store}
+use Rattle.account_core.specs.Logs.{AreNone, Logged, entries_of}
+use Rattle.quotactl.specs.Held.{Owned}
 use Rattle.quotactl.specs.Texts.{answer_text, greeting}
 use Rattle.quotactl.specs.Imap.{Request, session_roots, work, work_of, imap}
 
@@ -26,23 +27,16 @@ abbrev pub NeverStore : List (Call × Answer) → Type 0
 NeverStore [] = Unit {0}
 NeverStore ((call, answer) ∷ log) = (answer ≢ store) × NeverStore log
 
--- the entries of a caller's calls
-abbrev pub entries_of : ℕ → List (Call × Answer) → List Entry
-entries_of caller [] = []
-entries_of caller ((call, replied given) ∷ log) = entry_of caller call false ∷ entries_of caller log
-entries_of caller ((call, store) ∷ log) = entry_of caller call true ∷ entries_of caller log
-entries_of caller ((call, journal_full) ∷ log) = entries_of caller log
-
 -- The calls of the account's one owner, with their answers: each is the machine's at the call's place in the one history,
 -- which is the old one and these calls.
-pub record Owns (account account' : Book) (log : List (Call × Answer)) : Type 0 where
-  pub opened : account'.opened ≡ account.opened
-  pub logged : Logged AreNone account.opened 0 account.history log account'.history
+pub record Owns (account account' : Owned) (log : List (Call × Answer)) : Type 0 where
+  pub origin : account'.origin ≡ account.origin
+  pub logged : Logged AreNone account.origin 0 account.history log account'.history
   pub history : account'.history ≡ account.history ++ entries_of 0 log
   pub no_store : NeverStore log
 
 -- The bytes that left the source, the calls with their answers, the bytes that the sink gained and the end are a session of IMAP.
-pub record IsSession (left left' written written' : Option (List ℕ)) (account account' : Book) (end : SessionEnd) : Type 0 where
+pub record IsSession (left left' written written' : Option (List ℕ)) (account account' : Owned) (end : SessionEnd) : Type 0 where
   pub taken : List ℕ
   pub log : List (Call × Answer)
   pub text : List ℕ
@@ -52,7 +46,7 @@ pub record IsSession (left left' written written' : Option (List ℕ)) (account 
   pub session : Session imap input_limit (IsAtEnd left') taken log text end
 
 -- a request is answered in full, with this text
-pub record Answered (account account' : Book) (bytes text : List ℕ) (after : After) : Type 0 where
+pub record Answered (account account' : Owned) (bytes text : List ℕ) (after : After) : Type 0 where
   pub x : Exchange Request Call Answer
   pub exchange : IsExchange imap tt x after
   pub bytes_is : x.bytes ≡ bytes
@@ -60,25 +54,25 @@ pub record Answered (account account' : Book) (bytes text : List ℕ) (after : A
   pub owned : Owns account account' x.log
 
 -- at most the first calls of a request were made
-pub record Abandoned (account account' : Book) (bytes : List ℕ) : Type 0 where
+pub record Abandoned (account account' : Owned) (bytes : List ℕ) : Type 0 where
   pub log : List (Call × Answer)
   pub owned : Owns account account' log
   pub begun : (log ≡ []) ⊎ ((request : Request) × Spells imap tt bytes request × Begins (work request) log)
 
 -- the account was asked, and this text answers the command with the tag
-abbrev pub AnswersCall : Book → Book → Call → (mailbox tag text : List ℕ) → Type 0
+abbrev pub AnswersCall : Owned → Owned → Call → (mailbox tag text : List ℕ) → Type 0
 AnswersCall account account' call mailbox tag text = (answer : Answer) × (text ≡ answer_text session_roots mailbox tag answer) × Owns account account' ((call, answer) ∷ [])
 
 -- the account was asked or was not
-abbrev pub LeavesCall : Book → Book → Call → Type 0
+abbrev pub LeavesCall : Owned → Owned → Call → Type 0
 LeavesCall account account' call = (log : List (Call × Answer)) × Owns account account' log × ((log ≡ []) ⊎ ((answer : Answer) × (log ≡ (call, answer) ∷ [])))
 
 -- the work for a command with this tag was done, and this is its text
-abbrev pub AnswersCommand : Book → Book → List ℕ → Command → List ℕ → After → Type 0
+abbrev pub AnswersCommand : Owned → Owned → List ℕ → Command → List ℕ → After → Type 0
 AnswersCommand account account' tag command text after = (log : List (Call × Answer)) × Does (work_of tag command) log text after × Owns account account' log
 
 -- at most the first calls for a command with this tag were made
-abbrev pub LeavesCommand : Book → Book → List ℕ → Command → Type 0
+abbrev pub LeavesCommand : Owned → Owned → List ℕ → Command → Type 0
 LeavesCommand account account' tag command = (log : List (Call × Answer)) × Owns account account' log × Begins (work_of tag command) log
 
 -- what came of the bytes of a request: the text that answers them, or the session's end with nothing written for them
@@ -88,7 +82,7 @@ Comes nothing_left at given waiting log text (Ok after) =
 Comes nothing_left at given waiting log text (Err end) = Ends imap input_limit nothing_left tt at (given ++ waiting) log [] end
 
 -- a request was taken from the feed, and its answer made
-pub record TakesRequest (left left' : Option (List ℕ)) (waiting waiting' : List ℕ) (taken taken' at at' : ℕ) (account account' : Book) (text : List ℕ) (result : Result After SessionEnd) : Type 0 where
+pub record TakesRequest (left left' : Option (List ℕ)) (waiting waiting' : List ℕ) (taken taken' at at' : ℕ) (account account' : Owned) (text : List ℕ) (result : Result After SessionEnd) : Type 0 where
   pub given : List ℕ
   pub log : List (Call × Answer)
   pub hands : Hands left left' waiting waiting' taken taken' given
@@ -103,7 +97,7 @@ Served nothing_left at given waiting log text (Ok after) =
 Served nothing_left at given waiting log text (Err end) = Ends imap input_limit nothing_left tt at (given ++ waiting) log text end
 
 -- a request was taken from the feed, and its answer written
-pub record ServesRequest (left left' written written' : Option (List ℕ)) (waiting waiting' : List ℕ) (taken taken' at at' : ℕ) (account account' : Book) (result : Result After SessionEnd) : Type 0 where
+pub record ServesRequest (left left' written written' : Option (List ℕ)) (waiting waiting' : List ℕ) (taken taken' at at' : ℕ) (account account' : Owned) (result : Result After SessionEnd) : Type 0 where
   pub given : List ℕ
   pub log : List (Call × Answer)
   pub text : List ℕ
@@ -114,7 +108,7 @@ pub record ServesRequest (left left' written written' : Option (List ℕ)) (wait
   pub served : Served (IsAtEnd left') at given waiting' log text result
 
 -- what a session does once its greeting is written
-pub record IsServed (left left' written written' : Option (List ℕ)) (account account' : Book) (end : SessionEnd) : Type 0 where
+pub record IsServed (left left' written written' : Option (List ℕ)) (account account' : Owned) (end : SessionEnd) : Type 0 where
   pub taken : List ℕ
   pub log : List (Call × Answer)
   pub text : List ℕ

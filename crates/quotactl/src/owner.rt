@@ -1,10 +1,10 @@
 // The account of a session: one over a keeper in memory that never fails, asked by its owner alone.
 ghost use Rattle.std.specs.Prelude.{◌≡◌, ◌≢◌, [], IfOk};
 ghost use Rattle.quota_roots.specs.RootLists.{name_at};
-ghost use Rattle.account_core.specs.History.{Serves};
-ghost use Rattle.quotactl.specs.Held.{IsAsked};
+ghost use Rattle.account_core.specs.Logs.{Serves};
+ghost use Rattle.quotactl.specs.Held.{IsAsked, IsHeld};
 ghost use Rattle.quotactl.specs.Imap.{session_roots};
-ghost use Rattle.quotactl.specs.Plain.{plain_opened};
+ghost use Rattle.quotactl.specs.Plain.{plain_origin};
 
 use account_core::{Call, Reply, StepError};
 use account_ledger::{AccountState, OpenError};
@@ -14,21 +14,21 @@ use quota_units::{Limits, NoMemory};
 use std::alloc::Global;
 use std::marker::Model;
 
-/// The account of a session, with its one owner. Contracts see what it was opened with, and its history.
+/// The account of a session, with its one owner. Contracts see where its history begins, that is what it was opened with, and the
+/// history.
 #[derive(Drop)]
 pub struct Owner {
     state: AccountState<FixedKeeper>,
 }
 
 impl Model for Owner {
-    ghost use Rattle.account_core.specs.History.{Book};
-    ghost use Rattle.quotactl.specs.Held.{book_of, IsHeld};
+    ghost use Rattle.quotactl.specs.Held.{Owned, owned_of, IsHeld};
 
-    ghost Value = { Book };
+    ghost Value = { Owned };
 
-    ghost view = { λ owner. book_of owner.state };
+    ghost view = { λ owner. owned_of owner.state };
 
-    ghost invariant = { λ owner. IsHeld owner.state };
+    ghost invariant = { λ owner. IsHeld (owned_of owner.state) };
 }
 
 impl Owner {
@@ -38,7 +38,7 @@ impl Owner {
     ///
     /// There was no memory.
     pub fn open(alloc: Global, limits: Limits) -> Result<Owner, NoMemory>
-        ensures opened { IfOk result (λ owner. owner.opened ≡ plain_opened limits) }
+        ensures origin { IfOk result (λ owner. owner.origin ≡ plain_origin limits) }
         ensures fresh { IfOk result (λ owner. owner.history ≡ []) }
     {
         let table = plain_table(alloc, limits)?;
@@ -51,6 +51,13 @@ impl Owner {
                 _ => unreachable!(),
             },
         }
+    }
+
+    /// The account has the one root of the empty name, and what it was opened with is told.
+    pub fn is_held(&self)
+        ensures { IsHeld self.now }
+    {
+        let _ = &self.state;
     }
 
     /// The name of the root of this number, which is empty; the number of no root has none.
@@ -67,8 +74,9 @@ impl Owner {
     /// `JournalFull` where the history holds 65536 entries, and `NoMemory`; both leave the history as it was.
     pub fn serve(&mut self, alloc: Global, call: Call) -> Result<Reply, StepError>
         requires { IsAsked call }
-        ensures opened { self.new.opened ≡ self.old.opened }
-        ensures serves { Serves self.old.opened 0 self.old.history call result self.new.history }
+        ensures held { IsHeld self.old }
+        ensures origin { self.new.origin ≡ self.old.origin }
+        ensures serves { Serves self.old.origin 0 self.old.history call result self.new.history }
         ensures no_store { result ≢ Err StepError.Store }
     {
         let answer = self.state.serve(alloc, 0, call, b"");

@@ -1,5 +1,6 @@
 use Rattle.std.proofs.Common.{◌++◌, ap, ◌∙◌, subst, Err}
-use Rattle.account_core.specs.History.{replied, Serves}
+use Rattle.account_core.specs.History.{replied}
+use Rattle.account_core.specs.Logs.{Serves}
 use Rattle.account_core.specs.declared.calls.StepError.TheVariants.{JournalFull}
 use Rattle.quotactl.specs.Imap.{session_roots}
 use Rattle.quotactl.specs.Texts.{answer_text}
@@ -11,19 +12,19 @@ returns-in-Ok-push_answer-clause-ok c =
     let answer = replied c.in-Ok.reply in (
       answer,
       c.in-Ok-push_answer.ensures ∙ ap (λ l. l ++ answer_text session_roots c.args.mailbox.now c.args.tag.now answer) c.requires.empty,
-      owns_call c.args.account.now c.serve.new.self c.args.call answer c.in-Ok.ensures.opened c.in-Ok.ensures.serves (replied_never c.in-Ok.reply),
+      owns_call c.args.account.now c.serve.new.self c.args.call answer c.in-Ok.ensures.origin c.in-Ok.ensures.serves (replied_never c.in-Ok.reply),
     )
 
 pub returns-in-Ok-clause-err : goal.returns-in-Ok-clause-err
 returns-in-Ok-clause-err c =
     let answer = replied c.in-Ok.reply in
     leaves_called c.args.account.now c.serve.new.self c.args.call answer
-    (owns_call c.args.account.now c.serve.new.self c.args.call answer c.in-Ok.ensures.opened c.in-Ok.ensures.serves (replied_never c.in-Ok.reply))
+    (owns_call c.args.account.now c.serve.new.self c.args.call answer c.in-Ok.ensures.origin c.in-Ok.ensures.serves (replied_never c.in-Ok.reply))
 
 pub returns-in-Err-JournalFull-clause-ok : goal.returns-in-Err-JournalFull-clause-ok
 returns-in-Err-JournalFull-clause-ok c =
     let account = c.args.account.now in
-    let full : Serves account.opened 0 account.history c.args.call (Err (JournalFull c.in-Err-JournalFull.field-0-0)) c.serve.new.self.history =
-    subst (λ e. Serves account.opened 0 account.history c.args.call (Err e) c.serve.new.self.history) c.in-Err-JournalFull.field-0-is c.in-Err-JournalFull.ensures.serves in
+    let full : Serves account.origin 0 account.history c.args.call (Err (JournalFull c.in-Err-JournalFull.field-0-0)) c.serve.new.self.history =
+    subst (λ e. Serves account.origin 0 account.history c.args.call (Err e) c.serve.new.self.history) c.in-Err-JournalFull.field-0-is c.in-Err-JournalFull.ensures.serves in
     full_told account c.serve.new.self c.args.call c.args.mailbox.now c.args.tag.now c.answer_words-in-Err-JournalFull.new.text.items c.answer_words-in-Err-JournalFull.result
-    c.in-Err-JournalFull.ensures.opened full.1 c.answer_words-in-Err-JournalFull.ensures
+    c.in-Err-JournalFull.ensures.origin full.1 c.answer_words-in-Err-JournalFull.ensures
