@@ -44,15 +44,14 @@ impl<R: Files + AllocGlobal + Clone + Drop> FsKeeper<R> {
     }
 
     /// How often a call other than `append_ledger` has failed.
-    pub(crate) fn faults(&self) -> u64
+    pub fn faults(&self) -> u64
         ensures { result ≡ faults_of self.now }
     {
         self.faults
     }
 
     /// How often `append_ledger` has failed.
-    #[cfg(test)]
-    pub(crate) fn append_faults(&self) -> u64
+    pub fn append_faults(&self) -> u64
         ensures { result ≡ append_faults_of self.now }
     {
         self.append_faults

@@ -34,8 +34,7 @@ impl<R: Files + AllocGlobal + Clone + Drop> FsStores<R> {
     }
 
     /// How often a call has failed.
-    #[cfg(test)]
-    pub(crate) fn faults(&self) -> u64
+    pub fn faults(&self) -> u64
         ensures { result ≡ store_faults_of self.now }
     {
         self.faults

@@ -13,6 +13,3 @@ mod writing;
 
 pub use fs_keeper::FsKeeper;
 pub use fs_stores::FsStores;
-
-#[cfg(test)]
-mod tests;

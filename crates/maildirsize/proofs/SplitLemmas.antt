@@ -1,7 +1,6 @@
 -- The first line of a text, cut at a separator, from its front on.
-use Rattle.std.proofs.Common.{◌≡◌, ℕ, ◌+◌, List, [], ◌∷◌, Bool, true, false, cond, not, ◌||◌, drop, refl, ap, ◌∙◌, sym, ⊎_elim}
-use Rattle.std.proofs.Math.Numerals.{one-add, add-one}
-use Rattle.std.specs.List.{prefix_len, take_while, slice_split, onto_first, list_any, after_first}
+use Rattle.std.proofs.Common.{◌≡◌, ℕ, ◌+◌, List, [], ◌∷◌, Bool, true, false, cond, not, ◌||◌, refl, ap, ◌∙◌, sym, ⊎_elim}
+use Rattle.std.specs.List.{take_while, slice_split, onto_first, list_any, after_first}
 use Rattle.std.proofs.lemmas.Bool.{cases_Bool, cond-true, cond-false, or_left, or_right, or_from, not_from_true, not_from_false}
 use Rattle.maildirsize.specs.Fronts.{skip_while}
 use Rattle.maildirsize.specs.Lines.{is_line_feed, is_in_line, first_line}

@@ -2,7 +2,7 @@
 use Rattle.std.proofs.Common.{◌≡◌, ℕ, Bool, true, false, if◌then◌else◌, List, [], ◌∷◌, Result, Ok, Err}
 use Rattle.wire_io.specs.declared.ends.After.{After}
 use Rattle.wire_io.specs.declared.ends.After.TheVariants.{Open, Closing}
-use Rattle.wire_io.specs.Work.{Work, ask, say, AlwaysEnds}
+use Rattle.wire_io.specs.Work.{ask, say, AlwaysEnds}
 use Rattle.wire_io.specs.Session.{EndsOneWay}
 use Rattle.quota_units.specs.Limiting.{LimitNumbers}
 use Rattle.quota_roots.specs.MailboxNames.{canonical}
@@ -14,7 +14,7 @@ use Rattle.imap_grammar.specs.declared.command.Command.TheVariants.{GetQuota, Ge
 use Rattle.quotactl.specs.declared.asked.Refusal.{Refusal}
 use Rattle.quotactl.specs.AskedLimits.{limits_asked, refusal_words}
 use Rattle.quotactl.specs.Texts.{tagged_line, no_root_text, name_too_long_text, logout_text, too_long_text, not_built_text, answer_text}
-use Rattle.quotactl.specs.Imap.{Request, command, not_built, too_long, session_roots, is_too_long, set_root, work_of, imap}
+use Rattle.quotactl.specs.Imap.{command, not_built, too_long, session_roots, is_too_long, set_root, work_of, imap}
 
 said : (text : List ℕ) (after : After) → AlwaysEnds {Call = Call} {Answer = Answer} (say text after) after
 said text after [] written word does = does.1

@@ -5,7 +5,7 @@ use Rattle.std.proofs.KnownBytes.{Appends-nil, Appends-trans, Consumes-nil}
 use Rattle.wire_io.specs.declared.ends.After.{After}
 use Rattle.wire_io.specs.declared.ends.After.TheVariants.{Open, Closing, Stopping}
 use Rattle.wire_io.specs.declared.ends.SessionEnd.{SessionEnd}
-use Rattle.wire_io.specs.declared.ends.SessionEnd.TheVariants.{Closed, Stopped, ReadFault, WriteFault, NoMemory}
+use Rattle.wire_io.specs.declared.ends.SessionEnd.TheVariants.{Closed, Stopped, ReadFault, WriteFault}
 use Rattle.wire_io.specs.Feeding.{Hands}
 use Rattle.wire_io.specs.Sending.{AppendsPart}
 use Rattle.wire_io.specs.Session.{Exchange, bytes_of, log_of, text_of, IsExchange, Exchanges, Ends, Finishes, EndsAsDecided}

@@ -1,8 +1,10 @@
-//! Tests of keepers, of the names of deliveries, of openings, and of the turn lock.
+//! Tests of keepers in memory and over folders, of the names of deliveries, of openings, and of the turn lock.
 #![tactic(auto)]
 
 #[cfg(test)]
 mod bases;
+#[cfg(test)]
+mod folders;
 #[cfg(test)]
 mod keepers;
 #[cfg(test)]

@@ -1,7 +1,7 @@
 ghost use Rattle.std.specs.Prelude.{◌<◌};
 
-use super::*;
 use keeper::{FileRow, KeepError, Keeper, Stores};
+use keeper_fs::{FsKeeper, FsStores};
 use quota_units::Failed;
 use std::alloc::{Allocator, Global};
 use std::fs::{File, Files, Metadata, OpenOptions};
