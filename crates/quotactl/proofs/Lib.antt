@@ -10,3 +10,4 @@ pub mod Wording
 pub mod Repeats
 pub mod Telling
 pub mod OneWay
+pub mod AnswerTexts

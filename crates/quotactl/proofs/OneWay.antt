@@ -13,7 +13,7 @@ use Rattle.imap_grammar.specs.declared.command.Command.{Command}
 use Rattle.imap_grammar.specs.declared.command.Command.TheVariants.{GetQuota, GetQuotaRoot, SetQuota, Logout}
 use Rattle.quotactl.specs.declared.asked.Refusal.{Refusal}
 use Rattle.quotactl.specs.AskedLimits.{limits_asked, refusal_words}
-use Rattle.quotactl.specs.Texts.{tagged_line, no_root_text, name_too_long_text, logout_text, too_long_text, not_built_text, answer_text}
+use Rattle.quotactl.specs.Texts.{get_quota, get_quota_root, set_quota, tagged_line, no_root_text, name_too_long_text, logout_text, too_long_text, not_built_text, answer_text}
 use Rattle.quotactl.specs.Imap.{command, not_built, too_long, session_roots, is_too_long, set_root, work_of, imap}
 
 said : (text : List ℕ) (after : After) → AlwaysEnds {Call = Call} {Answer = Answer} (say text after) after
@@ -31,13 +31,13 @@ asked_or_said true refusal call text = said refusal Open
 asked_or_said false refusal call text = asked call text Open
 
 limits_one_way : (tag root : List ℕ) (asked : Result LimitNumbers Refusal) → AlwaysEnds (set_root tag root asked) Open
-limits_one_way tag root (Ok limits) = asked_or_said (is_too_long root) (no_root_text tag) (SetLimits root limits) (answer_text session_roots [] tag)
+limits_one_way tag root (Ok limits) = asked_or_said (is_too_long root) (no_root_text tag) (SetLimits root limits) (answer_text session_roots set_quota tag)
 limits_one_way tag root (Err refusal) = said (tagged_line tag (refusal_words refusal)) Open
 
 command_one_way : (tag : List ℕ) (body : Command) → (word : After) × AlwaysEnds (work_of tag body) word
-command_one_way tag (GetQuota root) = (Open, asked_or_said (is_too_long root) (no_root_text tag) (Quota root) (answer_text session_roots [] tag))
+command_one_way tag (GetQuota root) = (Open, asked_or_said (is_too_long root) (no_root_text tag) (Quota root) (answer_text session_roots get_quota tag))
 command_one_way tag (GetQuotaRoot mailbox) =
-    (Open, asked_or_said (is_too_long (canonical mailbox)) (name_too_long_text tag) (Roots (canonical mailbox)) (answer_text session_roots (canonical mailbox) tag))
+    (Open, asked_or_said (is_too_long (canonical mailbox)) (name_too_long_text tag) (Roots (canonical mailbox)) (answer_text session_roots (get_quota_root (canonical mailbox)) tag))
 command_one_way tag (SetQuota root limits) = (Open, limits_one_way tag root (limits_asked limits))
 command_one_way tag Logout = (Closing, said (logout_text tag) Closing)
 
