@@ -9,3 +9,4 @@ pub mod LedgerChecks
 pub mod Wording
 pub mod Repeats
 pub mod Telling
+pub mod AnswerTexts

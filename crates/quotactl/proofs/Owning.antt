@@ -6,7 +6,7 @@ use Rattle.account_core.specs.declared.calls.Reply.{Reply}
 use Rattle.account_core.specs.History.{Answer, replied, store, journal_full, Book, Sits, AreNone, Logged, entry_of}
 use Rattle.account_core.proofs.Logging.{logged_append, logged_call, logged_nothing, none_both}
 use Rattle.quotactl.specs.Imap.{session_roots}
-use Rattle.quotactl.specs.Texts.{answer_text}
+use Rattle.quotactl.specs.Texts.{CommandKind, answer_text}
 use Rattle.quotactl.specs.Serving.{Owns, NeverStore, entries_of, AnswersCall, LeavesCall}
 
 pub replied_never : (given : Reply) → replied given ≢ store
@@ -66,7 +66,7 @@ pub owns_same : (account : Book) → Owns account account []
 owns_same account = owns_nothing account account refl refl
 
 -- the history was full, and these words say so
-pub full_told : (account account' : Book) (call : Call) (mailbox tag text : List ℕ) (result : Result (Unit {0}) NoMemory) → account'.opened ≡ account.opened → Sits account.opened 0 account.history call journal_full account'.history
-    → OnOk result (text ≡ answer_text session_roots mailbox tag journal_full) → OnOk result (AnswersCall account account' call mailbox tag text)
-full_told account account' call mailbox tag text (Ok done) same sits is = (journal_full, is, owns_call account account' call journal_full same sits full_never)
-full_told account account' call mailbox tag text (Err e) same sits is = tt
+pub full_told : (account account' : Book) (call : Call) (kind : CommandKind) (tag text : List ℕ) (result : Result (Unit {0}) NoMemory) → account'.opened ≡ account.opened → Sits account.opened 0 account.history call journal_full account'.history
+    → OnOk result (text ≡ answer_text session_roots kind tag journal_full) → OnOk result (AnswersCall account account' call kind tag text)
+full_told account account' call kind tag text (Ok done) same sits is = (journal_full, is, owns_call account account' call journal_full same sits full_never)
+full_told account account' call kind tag text (Err e) same sits is = tt

@@ -14,7 +14,7 @@ use Rattle.imap_grammar.specs.declared.command.Command.TheVariants.{SetQuota}
 use Rattle.account_core.specs.declared.calls.Call.TheVariants.{SetLimits, Roots}
 use Rattle.quotactl.specs.declared.asked.Refusal.{Refusal}
 use Rattle.quotactl.specs.AskedLimits.{limits_asked, refusal_words}
-use Rattle.quotactl.specs.Texts.{tagged_line, no_root_text, name_too_long_text}
+use Rattle.quotactl.specs.Texts.{CommandKind, get_quota_root, set_quota, tagged_line, no_root_text, name_too_long_text}
 use Rattle.quotactl.specs.Imap.{is_too_long, ask_for, set_root, work_of, ask_root, ask_mailbox}
 use Rattle.quotactl.specs.Serving.{AnswersCommand}
 use Rattle.quotactl.proofs.Owning.{owns_same}
@@ -30,17 +30,17 @@ choose true x y e = refl
 choose false x y e = absurd cc
 
 -- a name of more than 255 bytes
-pub long_root : (tag root : List ℕ) (call : Call) → 255 < length root → ask_root tag root call ≡ say (no_root_text tag) Open
-long_root tag root call lt = choose (is_too_long root) (say (no_root_text tag) Open) (ask_for tag [] call) (lt-ltb 255 (length root) lt)
+pub long_root : (kind : CommandKind) (tag root : List ℕ) (call : Call) → 255 < length root → ask_root kind tag root call ≡ say (no_root_text tag) Open
+long_root kind tag root call lt = choose (is_too_long root) (say (no_root_text tag) Open) (ask_for kind tag call) (lt-ltb 255 (length root) lt)
 
 pub long_mailbox : (tag mailbox : List ℕ) → 255 < length mailbox → ask_mailbox tag mailbox ≡ say (name_too_long_text tag) Open
-long_mailbox tag mailbox lt = choose (is_too_long mailbox) (say (name_too_long_text tag) Open) (ask_for tag mailbox (Roots mailbox)) (lt-ltb 255 (length mailbox) lt)
+long_mailbox tag mailbox lt = choose (is_too_long mailbox) (say (name_too_long_text tag) Open) (ask_for (get_quota_root mailbox) tag (Roots mailbox)) (lt-ltb 255 (length mailbox) lt)
 
 -- limits that are refused, or set
 pub refused_limits : (tag root : List ℕ) (asked : List AskedLimit) (refusal : Refusal) → limits_asked asked ≡ Err refusal → work_of tag (SetQuota root asked) ≡ say (tagged_line tag (refusal_words refusal)) Open
 refused_limits tag root asked refusal e = ap (set_root tag root) e
 
-pub limits_given : (tag root : List ℕ) (asked : List AskedLimit) (limits : LimitNumbers) → limits_asked asked ≡ Ok limits → work_of tag (SetQuota root asked) ≡ ask_root tag root (SetLimits root limits)
+pub limits_given : (tag root : List ℕ) (asked : List AskedLimit) (limits : LimitNumbers) → limits_asked asked ≡ Ok limits → work_of tag (SetQuota root asked) ≡ ask_root set_quota tag root (SetLimits root limits)
 limits_given tag root asked limits e = ap (set_root tag root) e
 
 -- what makes a name too long is its length

@@ -2,7 +2,7 @@
 use Rattle.std.specs.Prelude.{ℕ, Bool, true, ◌==◌, nat_le, nat_lt, if◌then◌else◌, List, [], length, Option, Some, None, Result, Ok, Err}
 use Rattle.std.specs.List.{list_any}
 use Rattle.wire_io.specs.Work.{Work, ask, say}
-use Rattle.wire_io.specs.Protocol.{Protocol}
+use Rattle.wire_io.specs.Protocol.{Protocol, HasOneCut}
 use Rattle.wire_io.specs.declared.ends.After.TheVariants.{Open, Closing}
 use Rattle.imap_grammar.specs.Grammar.{Tagged}
 use Rattle.imap_grammar.specs.Commands.{command_in}
@@ -17,7 +17,9 @@ use Rattle.account_core.specs.declared.calls.Call.TheVariants.{Quota, SetLimits,
 use Rattle.account_core.specs.History.{Answer}
 use Rattle.quotactl.specs.declared.asked.Refusal.{Refusal}
 use Rattle.quotactl.specs.AskedLimits.{limits_asked, refusal_words}
-use Rattle.quotactl.specs.Texts.{greeting, tagged_line, answer_text, no_root_text, name_too_long_text, logout_text, too_long_text, not_built_text}
+use Rattle.quotactl.specs.Texts.{CommandKind, get_quota, get_quota_root, set_quota}
+use Rattle.quotactl.specs.Texts.{greeting, tagged_line, answer_text, no_root_text}
+use Rattle.quotactl.specs.Texts.{name_too_long_text, logout_text, too_long_text, not_built_text}
 
 pub data Request : Type 0 where
   -- a command
@@ -47,24 +49,27 @@ session_roots = plain_roots
 abbrev pub is_too_long : List ℕ → Bool
 is_too_long name = nat_lt 255 (length name)
 
--- this call, and its answer told
-abbrev pub ask_for : List ℕ → List ℕ → Call → Work Call Answer
-ask_for tag mailbox call = ask call (λ answer. say (answer_text session_roots mailbox tag answer) Open)
+-- this call, and its answer told to the command with this tag
+abbrev pub ask_for : CommandKind → List ℕ → Call → Work Call Answer
+ask_for kind tag call = ask call (λ answer. say (answer_text session_roots kind tag answer) Open)
 
 -- a call on the root of this name; no root has too long a name
-abbrev pub ask_root : List ℕ → List ℕ → Call → Work Call Answer
-ask_root tag root call = if is_too_long root then say (no_root_text tag) Open else ask_for tag [] call
+abbrev pub ask_root : CommandKind → List ℕ → List ℕ → Call → Work Call Answer
+ask_root kind tag root call =
+    if is_too_long root then say (no_root_text tag) Open else ask_for kind tag call
 
 -- the roots of the mailbox of this name
 abbrev pub ask_mailbox : List ℕ → List ℕ → Work Call Answer
-ask_mailbox tag mailbox = if is_too_long mailbox then say (name_too_long_text tag) Open else ask_for tag mailbox (Roots mailbox)
+ask_mailbox tag mailbox =
+    if is_too_long mailbox then say (name_too_long_text tag) Open
+    else ask_for (get_quota_root mailbox) tag (Roots mailbox)
 
 abbrev pub set_root : List ℕ → List ℕ → Result LimitNumbers Refusal → Work Call Answer
-set_root tag root (Ok limits) = ask_root tag root (SetLimits root limits)
+set_root tag root (Ok limits) = ask_root set_quota tag root (SetLimits root limits)
 set_root tag root (Err refusal) = say (tagged_line tag (refusal_words refusal)) Open
 
 abbrev pub work_of : List ℕ → Command → Work Call Answer
-work_of tag (GetQuota root) = ask_root tag root (Quota root)
+work_of tag (GetQuota root) = ask_root get_quota tag root (Quota root)
 work_of tag (GetQuotaRoot mailbox) = ask_mailbox tag (canonical mailbox)
 work_of tag (SetQuota root limits) = set_root tag root (limits_asked limits)
 work_of tag Logout = say (logout_text tag) Closing
@@ -84,3 +89,7 @@ imap = record {
   work = λ state. work;
   next = λ state request. state;
 }
+
+-- IMAP goes on from each text to a whole request, and so cuts each text into requests in one way.
+abbrev pub ImapCutsOneWay : Type 0
+ImapCutsOneWay = (text : List ℕ) → HasOneCut imap tt text

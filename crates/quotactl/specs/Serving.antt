@@ -14,7 +14,7 @@ use Rattle.imap_grammar.specs.declared.command.Command.{Command}
 use Rattle.account_core.specs.declared.calls.Call.{Call}
 use Rattle.account_core.specs.declared.calls.Entry.{Entry}
 use Rattle.account_core.specs.History.{Answer, replied, store, journal_full, Book, AreNone, Logged, entry_of}
-use Rattle.quotactl.specs.Texts.{answer_text, greeting}
+use Rattle.quotactl.specs.Texts.{CommandKind, answer_text, greeting}
 use Rattle.quotactl.specs.Imap.{Request, session_roots, work, work_of, imap}
 
 -- the most bytes of a session
@@ -65,9 +65,11 @@ pub record Abandoned (account account' : Book) (bytes : List ℕ) : Type 0 where
   pub owned : Owns account account' log
   pub begun : (log ≡ []) ⊎ ((request : Request) × Spells imap tt bytes request × Begins (work request) log)
 
--- the account was asked, and this text answers the command with the tag
-abbrev pub AnswersCall : Book → Book → Call → (mailbox tag text : List ℕ) → Type 0
-AnswersCall account account' call mailbox tag text = (answer : Answer) × (text ≡ answer_text session_roots mailbox tag answer) × Owns account account' ((call, answer) ∷ [])
+-- the account was asked, and this text answers the command of this kind and tag
+abbrev pub AnswersCall : Book → Book → Call → CommandKind → (tag text : List ℕ) → Type 0
+AnswersCall account account' call kind tag text =
+    (answer : Answer) × (text ≡ answer_text session_roots kind tag answer)
+    × Owns account account' ((call, answer) ∷ [])
 
 -- the account was asked or was not
 abbrev pub LeavesCall : Book → Book → Call → Type 0

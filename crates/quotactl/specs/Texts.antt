@@ -1,5 +1,5 @@
 -- The lines that an IMAP session writes: RFC 9208, on the QUOTA and QUOTAROOT responses; the texts after OK, NO, BAD and BYE are this project's own.
-use Rattle.std.specs.Prelude.{ℕ, List, [], ◌++◌, codes, Option, None, Some}
+use Rattle.std.specs.Prelude.{◌≡◌, ◌≢◌, ℕ, List, [], ◌++◌, codes, Option, None, Some}
 use Rattle.std.specs.List.{flat_map}
 use Rattle.std.specs.Fmt.{decimal}
 use Rattle.quota_units.specs.Units.{units_of}
@@ -7,8 +7,10 @@ use Rattle.quota_roots.specs.declared.root.RootSpec.{RootSpec}
 use Rattle.quota_roots.specs.RootLists.{name_at}
 use Rattle.imap_grammar.specs.Printing.{printed}
 use Rattle.account_core.specs.declared.calls.RootRow.{RootRow}
-use Rattle.account_core.specs.declared.calls.Reply.TheVariants.{NoMailbox, Over, Delivered, Fits, NoMessage, Removed, Marked, NameTaken, Moved, NoRoot, Quota, LimitsSet, Roots, Status, Begun, NoPart, Part, Changed, Installed}
-use Rattle.account_core.specs.History.{Answer, replied, store, journal_full}
+use Rattle.account_core.specs.declared.calls.Reply.TheVariants.{NoRoot, Quota, LimitsSet, Roots}
+use Rattle.account_core.specs.History.{Answer, replied, journal_full}
+use Rattle.quotactl.specs.declared.texts.Kind.{Kind}
+use Rattle.quotactl.specs.declared.texts.Kind.TheVariants.{GetQuota, GetQuotaRoot, SetQuota}
 
 abbrev pub line_end : List ℕ
 line_end = codes "\r\n"
@@ -45,42 +47,78 @@ abbrev pub root_line : List RootSpec → RootRow → List ℕ
 root_line roots row = quota_line (name_at roots row.root) row
 
 -- a space and the name of a root of these
-abbrev pub root_behind : List RootSpec → RootRow → List ℕ
-root_behind roots row = codes " " ++ printed (name_at roots row.root)
+abbrev pub root_after_space : List RootSpec → RootRow → List ℕ
+root_after_space roots row = codes " " ++ printed (name_at roots row.root)
 
 -- the mailbox and the names of the roots that govern it: RFC 9208, on the QUOTAROOT response
 abbrev pub quota_root_line : List RootSpec → List ℕ → List RootRow → List ℕ
-quota_root_line roots mailbox rows = codes "* QUOTAROOT " ++ (printed mailbox ++ (flat_map (root_behind roots) rows ++ line_end))
+quota_root_line roots mailbox rows = codes "* QUOTAROOT " ++ (printed mailbox ++ (flat_map (root_after_space roots) rows ++ line_end))
 
 -- a name that no root has
 abbrev pub no_root_text : List ℕ → List ℕ
 no_root_text tag = tagged_line tag (codes "NO No such quota root")
 
--- what answers a command by the answer to its call, where the account has these roots; the mailbox is that of GETQUOTAROOT.
--- No command asks whether a message would fit, takes messages away, marks, moves or counts them, so that nothing answers these.
-abbrev pub answer_text : List RootSpec → List ℕ → List ℕ → Answer → List ℕ
-answer_text roots mailbox tag (replied NoMailbox) = tagged_line tag (codes "NO [TRYCREATE] No such mailbox")
-answer_text roots mailbox tag (replied (Over root resource)) = tagged_line tag (codes "NO [OVERQUOTA] Quota exceeded")
-answer_text roots mailbox tag (replied (Delivered number)) = tagged_line tag (codes "OK APPEND completed")
-answer_text roots mailbox tag (replied Fits) = []
-answer_text roots mailbox tag (replied NoMessage) = []
-answer_text roots mailbox tag (replied Removed) = []
-answer_text roots mailbox tag (replied Marked) = []
-answer_text roots mailbox tag (replied NameTaken) = []
-answer_text roots mailbox tag (replied Moved) = []
-answer_text roots mailbox tag (replied (Status messages unseen deleted deleted_octets octets)) = []
-answer_text roots mailbox tag (replied (Begun generation sets)) = []
-answer_text roots mailbox tag (replied NoPart) = []
-answer_text roots mailbox tag (replied (Part generation octets count)) = []
-answer_text roots mailbox tag (replied (Changed then now)) = []
-answer_text roots mailbox tag (replied (Installed usages)) = []
-answer_text roots mailbox tag (replied NoRoot) = no_root_text tag
-answer_text roots mailbox tag (replied (Quota row)) = root_line roots row ++ tagged_line tag (codes "OK GETQUOTA completed")
-answer_text roots mailbox tag (replied (LimitsSet row)) = root_line roots row ++ tagged_line tag (codes "OK SETQUOTA completed")
-answer_text roots mailbox tag (replied (Roots rows)) =
-    quota_root_line roots mailbox rows ++ (flat_map (root_line roots) rows ++ tagged_line tag (codes "OK GETQUOTAROOT completed"))
-answer_text roots mailbox tag store = tagged_line tag (codes "NO [UNAVAILABLE] Store unavailable")
-answer_text roots mailbox tag journal_full = tagged_line tag (codes "NO [LIMIT] Journal full")
+-- the store failed
+abbrev pub unavailable_text : List ℕ → List ℕ
+unavailable_text tag = tagged_line tag (codes "NO [UNAVAILABLE] Store unavailable")
+
+-- the account's history is full
+abbrev pub journal_full_text : List ℕ → List ℕ
+journal_full_text tag = tagged_line tag (codes "NO [LIMIT] Journal full")
+
+-- a command that makes a call, with what of it the answer tells
+pub data CommandKind : Type 0 where
+  get_quota : CommandKind
+  get_quota_root : (mailbox : List ℕ) → CommandKind
+  set_quota : CommandKind
+
+-- What answers each command, by the answer to its call, where the account has these roots.
+-- No call of a command gets a reply of another kind: such a reply is told as a failed store.
+abbrev pub get_quota_text : List RootSpec → (tag : List ℕ) → Answer → List ℕ
+get_quota_text roots tag (replied NoRoot) = no_root_text tag
+get_quota_text roots tag (replied (Quota row)) =
+    root_line roots row ++ tagged_line tag (codes "OK GETQUOTA completed")
+get_quota_text roots tag journal_full = journal_full_text tag
+get_quota_text roots tag answer = unavailable_text tag
+
+abbrev pub get_quota_root_text : List RootSpec → (mailbox tag : List ℕ) → Answer → List ℕ
+get_quota_root_text roots mailbox tag (replied (Roots rows)) =
+    quota_root_line roots mailbox rows
+    ++ (flat_map (root_line roots) rows ++ tagged_line tag (codes "OK GETQUOTAROOT completed"))
+get_quota_root_text roots mailbox tag journal_full = journal_full_text tag
+get_quota_root_text roots mailbox tag answer = unavailable_text tag
+
+abbrev pub set_quota_text : List RootSpec → (tag : List ℕ) → Answer → List ℕ
+set_quota_text roots tag (replied NoRoot) = no_root_text tag
+set_quota_text roots tag (replied (LimitsSet row)) =
+    root_line roots row ++ tagged_line tag (codes "OK SETQUOTA completed")
+set_quota_text roots tag journal_full = journal_full_text tag
+set_quota_text roots tag answer = unavailable_text tag
+
+abbrev pub answer_text : List RootSpec → CommandKind → (tag : List ℕ) → Answer → List ℕ
+answer_text roots get_quota tag answer = get_quota_text roots tag answer
+answer_text roots (get_quota_root mailbox) tag answer = get_quota_root_text roots mailbox tag answer
+answer_text roots set_quota tag answer = set_quota_text roots tag answer
+
+-- the kind that the code names so
+abbrev pub kind_of : Kind → CommandKind
+kind_of GetQuota = get_quota
+kind_of (GetQuotaRoot mailbox) = get_quota_root mailbox.now
+kind_of SetQuota = set_quota
+
+-- the last line answers the command with this tag
+abbrev pub EndsTagged : (tag text : List ℕ) → Type 0
+EndsTagged tag text = (front words : List ℕ) × (text ≡ front ++ tagged_line tag words)
+
+-- Whatever its call is answered, a command is answered by a text.
+abbrev pub AnswersHaveTexts : Type 0
+AnswersHaveTexts = (roots : List RootSpec) (kind : CommandKind) (tag : List ℕ) (answer : Answer)
+    → answer_text roots kind tag answer ≢ []
+
+-- Whatever its call is answered, the last line says so to the command with this tag.
+abbrev pub AnswersEndTagged : Type 0
+AnswersEndTagged = (roots : List RootSpec) (kind : CommandKind) (tag : List ℕ) (answer : Answer)
+    → EndsTagged tag (answer_text roots kind tag answer)
 
 -- a mailbox of more than 255 bytes
 abbrev pub name_too_long_text : List ℕ → List ℕ

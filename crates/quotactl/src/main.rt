@@ -5,6 +5,7 @@ mod asked;
 mod check;
 mod control;
 mod form;
+mod laws;
 mod owner;
 mod session;
 mod texts;

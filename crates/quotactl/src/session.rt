@@ -7,14 +7,14 @@ ghost use Rattle.wire_io.specs.Causes.{Rose};
 ghost use Rattle.wire_io.specs.Feeds.{source_of, source_name, waiting_of, taken_of, handed_of, limit_of};
 ghost use Rattle.wire_io.specs.Session.{InputEnds};
 ghost use Rattle.wire_io.specs.declared.ends.SessionEnd.{SessionEnd as End};
-ghost use Rattle.quotactl.specs.Texts.{tagged_line};
+ghost use Rattle.quotactl.specs.Texts.{tagged_line, kind_of};
 ghost use Rattle.quotactl.specs.Serving.{input_limit, end_at, TakesRequest, ServesRequest, IsServed, IsSession, AnswersCall, LeavesCall, AnswersCommand, LeavesCommand, Answered, Abandoned};
 
 use crate::asked::limits_of;
 use crate::owner::Owner;
 use crate::texts::{
-    GREETING, JOURNAL_FULL, NAME_TOO_LONG, NO_ROOT, NOT_BUILT, TOO_LONG, UNAVAILABLE, push_answer,
-    push_logout, push_tagged,
+    GREETING, JOURNAL_FULL, Kind, NAME_TOO_LONG, NO_ROOT, NOT_BUILT, TOO_LONG, UNAVAILABLE,
+    push_answer, push_logout, push_tagged,
 };
 use account_core::{Call, StepError};
 use imap_grammar::{AskedLimit, Astring, Command, CommandFault, read_tagged};
@@ -29,22 +29,23 @@ const MAX_TEXT: usize = 16384;
 /// The most bytes of a session.
 const INPUT_LIMIT: u64 = 1073741824;
 
-/// Asks the account, and appends what answers the command with this tag. The mailbox is that of GETQUOTAROOT.
+/// Asks the account, and appends what answers the command of this kind and tag.
 fn answer_call(
     alloc: Global,
     account: &mut Owner,
     call: Call,
-    mailbox: &[u8],
+    kind: Kind<'_>,
     tag: &[u8],
     text: &mut Vec<u8>,
 ) -> Result<(), NoMemory>
     requires asked { IsAsked call }
     requires empty { text.old.items ≡ [] }
-    ensures ok { OnOk result (AnswersCall account.old account.new call mailbox.now tag.now text.new.items) }
+    ensures ok { OnOk result (AnswersCall account.old account.new call (kind_of kind.entry)
+        tag.now text.new.items) }
     ensures err { OnErr result (LeavesCall account.old account.new call) }
 {
     match account.serve(alloc, call) {
-        Ok(reply) => match push_answer(text, account, mailbox, tag, &reply) {
+        Ok(reply) => match push_answer(text, account, kind, tag, &reply) {
             Ok(()) => Ok(()),
             Err(_) => Err(NoMemory),
         },
@@ -78,7 +79,14 @@ fn answer_get_quota(
     ensures err { OnErr result (LeavesCommand account.old account.new tag.now (Command.GetQuota root)) }
 {
     match root.into_name() {
-        Ok(root) => answer_call(alloc, account, Call::Quota { root }, b"", tag, text),
+        Ok(root) => answer_call(
+            alloc,
+            account,
+            Call::Quota { root },
+            Kind::GetQuota,
+            tag,
+            text,
+        ),
         Err(_) => answer_words(tag, NO_ROOT, text),
     }
 }
@@ -101,7 +109,7 @@ fn answer_get_quota_root(
             alloc,
             account,
             Call::Roots { mailbox: name },
-            mailbox,
+            Kind::GetQuotaRoot { mailbox },
             tag,
             text,
         ),
@@ -130,7 +138,7 @@ fn answer_set_quota(
                 alloc,
                 account,
                 Call::SetLimits { root, limits },
-                b"",
+                Kind::SetQuota,
                 tag,
                 text,
             ),

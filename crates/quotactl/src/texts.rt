@@ -3,8 +3,11 @@ ghost use Rattle.std.specs.Prelude.{◌≡◌, ◌++◌, OnOk};
 ghost use Rattle.std.specs.Fmt.{decimal};
 ghost use Rattle.std.specs.List.{flat_map};
 ghost use Rattle.quotactl.specs.Imap.{session_roots};
-ghost use Rattle.quotactl.specs.Texts.{resource, storage, message, resources, quota_line, root_line, root_behind, quota_root_line, tagged_line, answer_text, logout_text};
-ghost use Rattle.account_core.specs.History.{replied, journal_full, store};
+ghost use Rattle.quotactl.specs.Texts.{resource, storage, message, resources, tagged_line};
+ghost use Rattle.quotactl.specs.Texts.{quota_line, root_line, root_after_space, quota_root_line};
+ghost use Rattle.quotactl.specs.Texts.{get_quota_text, get_quota_root_text, set_quota_text};
+ghost use Rattle.quotactl.specs.Texts.{kind_of, answer_text, logout_text};
+ghost use Rattle.account_core.specs.History.{replied};
 
 use crate::owner::Owner;
 use account_core::{Reply, RootRow};
@@ -33,6 +36,15 @@ pub const UNAVAILABLE: &[u8] = b"NO [UNAVAILABLE] Store unavailable";
 
 /// What answers a command where the account's history is full.
 pub const JOURNAL_FULL: &[u8] = b"NO [LIMIT] Journal full";
+
+/// A command that makes a call, with what of it the answer tells.
+#[derive(Clone, Copy)]
+pub enum Kind<'a> {
+    GetQuota,
+    /// The mailbox has this name, in its canonical spelling.
+    GetQuotaRoot { mailbox: &'a [u8] },
+    SetQuota,
+}
 
 fn push_number(out: &mut Vec<u8>, number: u64) -> Result<(), AllocError>
     ensures { OnOk result (out.new.items ≡ out.old.items ++ decimal number) }
@@ -108,8 +120,12 @@ fn push_root_line(out: &mut Vec<u8>, account: &Owner, row: &RootRow) -> Result<(
 }
 
 /// A space and the name of a root of the account.
-fn push_root_behind(out: &mut Vec<u8>, account: &Owner, row: &RootRow) -> Result<(), AllocError>
-    ensures { OnOk result (out.new.items ≡ out.old.items ++ root_behind session_roots row.now) }
+fn push_root_after_space(
+    out: &mut Vec<u8>,
+    account: &Owner,
+    row: &RootRow,
+) -> Result<(), AllocError>
+    ensures { OnOk result (out.new.items ≡ out.old.items ++ root_after_space session_roots row.now) }
 {
     out.extend_from_slice(b" ")?;
     push_astring(out, account.root_name(row.root))
@@ -126,13 +142,13 @@ fn push_root_lines(out: &mut Vec<u8>, account: &Owner, rows: &[RootRow]) -> Resu
     Ok(())
 }
 
-/// The names of these roots, each behind a space.
+/// The names of these roots, each after a space.
 #[tactic(auto, using(crate::proofs::Rows::rows_none, crate::proofs::Rows::rows_more, crate::proofs::Rows::rows_all))]
 fn push_root_names(out: &mut Vec<u8>, account: &Owner, rows: &[RootRow]) -> Result<(), AllocError>
-    ensures { OnOk result (out.new.items ≡ out.old.items ++ flat_map (root_behind session_roots) rows.now) }
+    ensures { OnOk result (out.new.items ≡ out.old.items ++ flat_map (root_after_space session_roots) rows.now) }
 {
     for (i, row) in rows.iter().enumerate() {
-        push_root_behind(out, account, row)?;
+        push_root_after_space(out, account, row)?;
     }
     Ok(())
 }
@@ -152,46 +168,85 @@ fn push_quota_root_line(
     out.extend_from_slice(b"\r\n")
 }
 
-/// What answers a command, where the machine replied to its call. The mailbox is that of GETQUOTAROOT.
-pub fn push_answer(
+/// What answers GETQUOTA, by the reply to its call.
+fn push_get_quota(
+    out: &mut Vec<u8>,
+    account: &Owner,
+    tag: &[u8],
+    reply: &Reply,
+) -> Result<(), AllocError>
+    ensures { OnOk result (out.new.items
+        ≡ out.old.items ++ get_quota_text session_roots tag.now (replied reply.now)) }
+{
+    match reply {
+        Reply::NoRoot => push_tagged(out, tag, NO_ROOT),
+        Reply::Quota(row) => {
+            push_root_line(out, account, row)?;
+            push_tagged(out, tag, b"OK GETQUOTA completed")
+        }
+        // The call gets no other reply.
+        _ => push_tagged(out, tag, UNAVAILABLE),
+    }
+}
+
+/// What answers GETQUOTAROOT of this mailbox, by the reply to its call.
+fn push_get_quota_root(
     out: &mut Vec<u8>,
     account: &Owner,
     mailbox: &[u8],
     tag: &[u8],
     reply: &Reply,
 ) -> Result<(), AllocError>
-    ensures { OnOk result (out.new.items ≡ out.old.items ++ answer_text session_roots mailbox.now tag.now (replied reply.now)) }
+    ensures { OnOk result (out.new.items
+        ≡ out.old.items ++ get_quota_root_text session_roots mailbox.now tag.now (replied reply.now)) }
 {
     match reply {
-        Reply::NoMailbox => push_tagged(out, tag, b"NO [TRYCREATE] No such mailbox"),
-        Reply::Over { .. } => push_tagged(out, tag, b"NO [OVERQUOTA] Quota exceeded"),
-        Reply::Delivered { .. } => push_tagged(out, tag, b"OK APPEND completed"),
-        Reply::Fits
-        | Reply::NoMessage
-        | Reply::Removed
-        | Reply::Marked
-        | Reply::NameTaken
-        | Reply::Moved
-        | Reply::Status { .. }
-        | Reply::Begun { .. }
-        | Reply::NoPart
-        | Reply::Part { .. }
-        | Reply::Changed { .. }
-        | Reply::Installed { .. } => Ok(()),
-        Reply::NoRoot => push_tagged(out, tag, NO_ROOT),
-        Reply::Quota(row) => {
-            push_root_line(out, account, row)?;
-            push_tagged(out, tag, b"OK GETQUOTA completed")
-        }
-        Reply::LimitsSet(row) => {
-            push_root_line(out, account, row)?;
-            push_tagged(out, tag, b"OK SETQUOTA completed")
-        }
         Reply::Roots(rows) => {
             push_quota_root_line(out, account, mailbox, rows.as_slice())?;
             push_root_lines(out, account, rows.as_slice())?;
             push_tagged(out, tag, b"OK GETQUOTAROOT completed")
         }
+        // The call gets no other reply.
+        _ => push_tagged(out, tag, UNAVAILABLE),
+    }
+}
+
+/// What answers SETQUOTA, by the reply to its call.
+fn push_set_quota(
+    out: &mut Vec<u8>,
+    account: &Owner,
+    tag: &[u8],
+    reply: &Reply,
+) -> Result<(), AllocError>
+    ensures { OnOk result (out.new.items
+        ≡ out.old.items ++ set_quota_text session_roots tag.now (replied reply.now)) }
+{
+    match reply {
+        Reply::NoRoot => push_tagged(out, tag, NO_ROOT),
+        Reply::LimitsSet(row) => {
+            push_root_line(out, account, row)?;
+            push_tagged(out, tag, b"OK SETQUOTA completed")
+        }
+        // The call gets no other reply.
+        _ => push_tagged(out, tag, UNAVAILABLE),
+    }
+}
+
+/// What answers a command, where the machine replied to its call.
+pub fn push_answer(
+    out: &mut Vec<u8>,
+    account: &Owner,
+    kind: Kind<'_>,
+    tag: &[u8],
+    reply: &Reply,
+) -> Result<(), AllocError>
+    ensures { OnOk result (out.new.items
+        ≡ out.old.items ++ answer_text session_roots (kind_of kind.entry) tag.now (replied reply.now)) }
+{
+    match kind {
+        Kind::GetQuota => push_get_quota(out, account, tag, reply),
+        Kind::GetQuotaRoot { mailbox } => push_get_quota_root(out, account, mailbox, tag, reply),
+        Kind::SetQuota => push_set_quota(out, account, tag, reply),
     }
 }
 
