@@ -7,11 +7,6 @@ use wire_io::{MemSink, MemSource};
 const USAGE: &[u8] =
     b"usage: quotactl session N | imap [ACCOUNT] | jmap | policy | recalc ACCOUNT | check | workload N\n";
 
-const GREETING: &[u8] = b"* PREAUTH quotad ready\r\n";
-
-const WHOLE: &[u8] =
-    b"* PREAUTH quotad ready\r\n* QUOTA \"\" (STORAGE 0 512)\r\na1 OK GETQUOTA completed\r\n* BYE quotad closing\r\na2 OK LOGOUT completed\r\n";
-
 /// A run of the program: its words and input, the reads and writes that fail, and the room of the sink.
 #[derive(Clone, Copy)]
 struct Run<'a> {
@@ -51,331 +46,474 @@ fn plain<'a>(words: &'a [&'a str], input: &'a [u8]) -> Run<'a> {
     }
 }
 
+/// An input, what is written for it, and the status.
+type Row = (&'static [u8], &'static [u8], u8);
+
+/// Sessions of an account with 512 units of storage.
+static SESSIONS: [Row; 30] = [
+    (
+        b"a1 GETQUOTA \"\"\r\na2 LOGOUT\r\n",
+        b"* PREAUTH quotad ready\r\n* QUOTA \"\" (STORAGE 0 512)\r\na1 OK GETQUOTA completed\r\n* BYE quotad closing\r\na2 OK LOGOUT completed\r\n",
+        0,
+    ),
+    (
+        b"a1 GETQUOTA \"\"\na2 LOGOUT\n",
+        b"* PREAUTH quotad ready\r\n* QUOTA \"\" (STORAGE 0 512)\r\na1 OK GETQUOTA completed\r\n* BYE quotad closing\r\na2 OK LOGOUT completed\r\n",
+        0,
+    ),
+    (
+        b"a1 getquota \"\"\r\na2 logout\r\nafter",
+        b"* PREAUTH quotad ready\r\n* QUOTA \"\" (STORAGE 0 512)\r\na1 OK GETQUOTA completed\r\n* BYE quotad closing\r\na2 OK LOGOUT completed\r\n",
+        0,
+    ),
+    (b"", b"* PREAUTH quotad ready\r\n", 0),
+    (
+        b"a1 GETQUOTA \"\"\r\n",
+        b"* PREAUTH quotad ready\r\n* QUOTA \"\" (STORAGE 0 512)\r\na1 OK GETQUOTA completed\r\n",
+        0,
+    ),
+    (b"a1 GETQUOTA \"\"", b"* PREAUTH quotad ready\r\n", 3),
+    (
+        b"\n",
+        b"* PREAUTH quotad ready\r\n* BAD Not built yet\r\n",
+        0,
+    ),
+    (
+        b"a1 NOOP\r\na2 LOGOUT\r\n",
+        b"* PREAUTH quotad ready\r\n* BAD Not built yet\r\n* BYE quotad closing\r\na2 OK LOGOUT completed\r\n",
+        0,
+    ),
+    (
+        b"a1 APPEND INBOX {3}\r\nabc\r\n",
+        b"* PREAUTH quotad ready\r\n* BAD Not built yet\r\n* BAD Not built yet\r\n",
+        0,
+    ),
+    // SETQUOTA replaces all limits.
+    (
+        b"a1 SETQUOTA \"\" (MESSAGE 10)\r\na2 GETQUOTA \"\"\r\n",
+        b"* PREAUTH quotad ready\r\n* QUOTA \"\" (MESSAGE 0 10)\r\na1 OK SETQUOTA completed\r\n* QUOTA \"\" (MESSAGE 0 10)\r\na2 OK GETQUOTA completed\r\n",
+        0,
+    ),
+    // SETQUOTA with no limits.
+    (
+        b"a1 SETQUOTA \"\" ()\r\n",
+        b"* PREAUTH quotad ready\r\n* QUOTA \"\" ()\r\na1 OK SETQUOTA completed\r\n",
+        0,
+    ),
+    // The range of a limit at both ends.
+    (
+        b"a1 SETQUOTA \"\" (STORAGE 0)\r\na2 SETQUOTA \"\" (STORAGE 8796093022208)\r\na3 SETQUOTA \"\" (STORAGE 8796093022207)\r\n",
+        b"* PREAUTH quotad ready\r\na1 NO Limit not supported\r\na2 NO Limit not supported\r\n* QUOTA \"\" (STORAGE 0 8796093022207)\r\na3 OK SETQUOTA completed\r\n",
+        0,
+    ),
+    (
+        b"a SETQUOTA \"\" (message 1 Storage 2)\n",
+        b"* PREAUTH quotad ready\r\n* QUOTA \"\" (STORAGE 0 2 MESSAGE 0 1)\r\na OK SETQUOTA completed\r\n",
+        0,
+    ),
+    (
+        b"a SETQUOTA \"\" (MESSAGE 8796093022207)\n",
+        b"* PREAUTH quotad ready\r\n* QUOTA \"\" (MESSAGE 0 8796093022207)\r\na OK SETQUOTA completed\r\n",
+        0,
+    ),
+    (
+        b"a SETQUOTA \"\" (MESSAGE 0)\n",
+        b"* PREAUTH quotad ready\r\na NO Limit not supported\r\n",
+        0,
+    ),
+    (
+        b"a SETQUOTA \"\" (MESSAGE 8796093022208)\n",
+        b"* PREAUTH quotad ready\r\na NO Limit not supported\r\n",
+        0,
+    ),
+    // The refusals in their order, over the whole list.
+    (
+        b"a SETQUOTA \"\" (STORAGE 0 STORAGE 1 MAILBOX 1)\n",
+        b"* PREAUTH quotad ready\r\na NO Resource not supported\r\n",
+        0,
+    ),
+    (
+        b"a SETQUOTA \"\" (X 1 X 1)\n",
+        b"* PREAUTH quotad ready\r\na NO Resource not supported\r\n",
+        0,
+    ),
+    (
+        b"a SETQUOTA \"\" (STORAGE 0 MESSAGE 1 storage 1)\n",
+        b"* PREAUTH quotad ready\r\na NO Resource repeated\r\n",
+        0,
+    ),
+    (
+        b"a SETQUOTA \"\" (MESSAGE 1 Message 0)\n",
+        b"* PREAUTH quotad ready\r\na NO Resource repeated\r\n",
+        0,
+    ),
+    (
+        b"a SETQUOTA nowhere (STORAGE 0)\n",
+        b"* PREAUTH quotad ready\r\na NO Limit not supported\r\n",
+        0,
+    ),
+    (
+        b"a SETQUOTA nowhere (STORAGE 1)\n",
+        b"* PREAUTH quotad ready\r\na NO No such quota root\r\n",
+        0,
+    ),
+    // A refusal leaves the limits.
+    (
+        b"a SETQUOTA \"\" (STORAGE 0)\nb SETQUOTA x ()\nc GETQUOTA \"\"\n",
+        b"* PREAUTH quotad ready\r\na NO Limit not supported\r\nb NO No such quota root\r\n* QUOTA \"\" (STORAGE 0 512)\r\nc OK GETQUOTA completed\r\n",
+        0,
+    ),
+    // The roots of mailboxes, which need not exist.
+    (
+        b"a1 GETQUOTAROOT Nowhere\r\n",
+        b"* PREAUTH quotad ready\r\n* QUOTAROOT Nowhere \"\"\r\n* QUOTA \"\" (STORAGE 0 512)\r\na1 OK GETQUOTAROOT completed\r\n",
+        0,
+    ),
+    (
+        b"a1 GETQUOTAROOT Trash\r\n",
+        b"* PREAUTH quotad ready\r\n* QUOTAROOT Trash\r\na1 OK GETQUOTAROOT completed\r\n",
+        0,
+    ),
+    (
+        b"a1 GETQUOTAROOT inbox\r\n",
+        b"* PREAUTH quotad ready\r\n* QUOTAROOT INBOX \"\"\r\n* QUOTA \"\" (STORAGE 0 512)\r\na1 OK GETQUOTAROOT completed\r\n",
+        0,
+    ),
+    (
+        b"a getquotaroot \"iNbOx\"\n",
+        b"* PREAUTH quotad ready\r\n* QUOTAROOT INBOX \"\"\r\n* QUOTA \"\" (STORAGE 0 512)\r\na OK GETQUOTAROOT completed\r\n",
+        0,
+    ),
+    (
+        b"a GETQUOTAROOT \"a \\\"b\\\"\"\n",
+        b"* PREAUTH quotad ready\r\n* QUOTAROOT \"a \\\"b\\\"\" \"\"\r\n* QUOTA \"\" (STORAGE 0 512)\r\na OK GETQUOTAROOT completed\r\n",
+        0,
+    ),
+    (
+        b"a GETQUOTAROOT \"\xc3\xa4\"\n",
+        b"* PREAUTH quotad ready\r\n* QUOTAROOT {2}\r\n\xc3\xa4 \"\"\r\n* QUOTA \"\" (STORAGE 0 512)\r\na OK GETQUOTAROOT completed\r\n",
+        0,
+    ),
+    (
+        b"a GETQUOTAROOT \"\"\n",
+        b"* PREAUTH quotad ready\r\n* QUOTAROOT \"\" \"\"\r\n* QUOTA \"\" (STORAGE 0 512)\r\na OK GETQUOTAROOT completed\r\n",
+        0,
+    ),
+];
+
+/// A session of an account with the most units of storage.
+static MOST_UNITS: [Row; 1] = [(
+    b"a GETQUOTA \"\"\r\n",
+    b"* PREAUTH quotad ready\r\n* QUOTA \"\" (STORAGE 0 8796093022207)\r\na OK GETQUOTA completed\r\n",
+    0,
+)];
+
+/// What `check` says of ledgers.
+static LEDGERS: [Row; 16] = [
+    // Two lines are added up.
+    (
+        b"10000000S,1000C\n1234 1\n-1234 -1\n",
+        b"definition 10000000S,1000C\nlines 2\noctets 0\nmessages 0\n",
+        0,
+    ),
+    // The same without the last line feed.
+    (b"10000000S,1000C\n1234 1\n-1234 -1", b"torn at 23\n", 3),
+    (b"1S;\n", b"bad definition at 0\n", 3),
+    (b"1S\n1\nx\n", b"bad line 2\n", 3),
+    (b"", b"torn at 0\n", 3),
+    (b"\n", b"definition 0S\nlines 0\noctets 0\nmessages 0\n", 0),
+    (
+        b"5C,7S\n",
+        b"definition 7S,5C\nlines 0\noctets 0\nmessages 0\n",
+        0,
+    ),
+    (
+        b"1S,2S,3s\n  -5   -1  \n",
+        b"definition 2S\nlines 1\noctets -5\nmessages -1\n",
+        0,
+    ),
+    (
+        b"5S,0S\n",
+        b"definition 0S\nlines 0\noctets 0\nmessages 0\n",
+        0,
+    ),
+    (
+        b"0S\n999999999999999999 1\n999999999999999999 1\n",
+        b"definition 0S\nlines 2\noctets 1999999999999999998\nmessages 2\n",
+        0,
+    ),
+    (b"0S\n1000000000000000000 1\n", b"bad line 2\n", 3),
+    (b"0S\n1\t1\n", b"bad line 2\n", 3),
+    (b"0S\n1 1\r\n", b"bad line 2\n", 3),
+    (b"1S,\n", b"bad definition at 3\n", 3),
+    (b"1S", b"torn at 0\n", 3),
+    (b"1S\n1 1\nx", b"torn at 7\n", 3),
+];
+
+/// Words that are of no form, or whose units are out of range.
+static NO_FORMS: [&[&str]; 15] = [
+    &["check", "5"],
+    &["Check"],
+    &["check", "check"],
+    &["session", "0"],
+    &["session", "8796093022208"],
+    &["session", "18446744073709551616"],
+    &["session", "01"],
+    &["session", "+5"],
+    &["session", "-5"],
+    &["session", ""],
+    &["session"],
+    &["session", "5", "5"],
+    &["Session", "5"],
+    &["imap"],
+    &[],
+];
+
+/// A text of parts, each so many times.
+type Parts = &'static [(&'static [u8], usize)];
+
+/// An input, what is written for it, and the status.
+type LongRow = (Parts, Parts, u8);
+
+/// Names, lines and a history at their limits.
+static LONG_SESSIONS: [LongRow; 17] = [
+    // A name of more than 255 bytes makes no call.
+    (
+        &[(b"a GETQUOTA ", 1), (b"x", 255), (b"\n", 1)],
+        &[(b"* PREAUTH quotad ready\r\na NO No such quota root\r\n", 1)],
+        0,
+    ),
+    (
+        &[(b"a GETQUOTA ", 1), (b"x", 256), (b"\n", 1)],
+        &[(b"* PREAUTH quotad ready\r\na NO No such quota root\r\n", 1)],
+        0,
+    ),
+    (
+        &[(b"a GETQUOTA ", 1), (b"x", 16000), (b"\n", 1)],
+        &[(b"* PREAUTH quotad ready\r\na NO No such quota root\r\n", 1)],
+        0,
+    ),
+    (
+        &[(b"a SETQUOTA ", 1), (b"x", 255), (b" (STORAGE 1)\n", 1)],
+        &[(b"* PREAUTH quotad ready\r\na NO No such quota root\r\n", 1)],
+        0,
+    ),
+    (
+        &[(b"a SETQUOTA ", 1), (b"x", 256), (b" (STORAGE 1)\n", 1)],
+        &[(b"* PREAUTH quotad ready\r\na NO No such quota root\r\n", 1)],
+        0,
+    ),
+    (
+        &[(b"a SETQUOTA ", 1), (b"x", 16000), (b" (STORAGE 1)\n", 1)],
+        &[(b"* PREAUTH quotad ready\r\na NO No such quota root\r\n", 1)],
+        0,
+    ),
+    (
+        &[(b"a SETQUOTA ", 1), (b"x", 255), (b" (STORAGE 0)\n", 1)],
+        &[(b"* PREAUTH quotad ready\r\na NO Limit not supported\r\n", 1)],
+        0,
+    ),
+    (
+        &[(b"a SETQUOTA ", 1), (b"x", 256), (b" (STORAGE 0)\n", 1)],
+        &[(b"* PREAUTH quotad ready\r\na NO Limit not supported\r\n", 1)],
+        0,
+    ),
+    (
+        &[(b"a SETQUOTA ", 1), (b"x", 16000), (b" (STORAGE 0)\n", 1)],
+        &[(b"* PREAUTH quotad ready\r\na NO Limit not supported\r\n", 1)],
+        0,
+    ),
+    (
+        &[(b"a GETQUOTAROOT ", 1), (b"x", 255), (b"\n", 1)],
+        &[
+            (b"* PREAUTH quotad ready\r\n* QUOTAROOT ", 1),
+            (b"x", 255),
+            (
+                b" \"\"\r\n* QUOTA \"\" (STORAGE 0 512)\r\na OK GETQUOTAROOT completed\r\n",
+                1,
+            ),
+        ],
+        0,
+    ),
+    (
+        &[(b"a GETQUOTAROOT ", 1), (b"x", 256), (b"\n", 1)],
+        &[(b"* PREAUTH quotad ready\r\na NO Name too long\r\n", 1)],
+        0,
+    ),
+    (
+        &[(b"a GETQUOTAROOT ", 1), (b"x", 16000), (b"\n", 1)],
+        &[(b"* PREAUTH quotad ready\r\na NO Name too long\r\n", 1)],
+        0,
+    ),
+    // The history has no entry of them, nor of limits that are refused, and is full at 65536 calls.
+    (
+        &[
+            (b"a GETQUOTA \"\"\n", 65534),
+            (b"a GETQUOTA ", 1),
+            (b"x", 256),
+            (b"\n", 1),
+            (b"a GETQUOTAROOT ", 1),
+            (b"x", 256),
+            (b"\n", 1),
+            (b"b SETQUOTA \"\" (X 1)\nc GETQUOTA x\nd GETQUOTA \"\"\n", 1),
+            (b"e GETQUOTAROOT x\nf GETQUOTA \"\"\n", 1),
+        ],
+        &[
+            (b"* PREAUTH quotad ready\r\n", 1),
+            (
+                b"* QUOTA \"\" (STORAGE 0 512)\r\na OK GETQUOTA completed\r\n",
+                65534,
+            ),
+            (
+                b"a NO No such quota root\r\na NO Name too long\r\nb NO Resource not supported\r\n",
+                1,
+            ),
+            (
+                b"c NO No such quota root\r\n* QUOTA \"\" (STORAGE 0 512)\r\nd OK GETQUOTA completed\r\n",
+                1,
+            ),
+            (
+                b"e NO [LIMIT] Journal full\r\nf NO [LIMIT] Journal full\r\n",
+                1,
+            ),
+        ],
+        0,
+    ),
+    // A line has at most 16384 bytes.
+    (&[(b"x", 16383)], &[(b"* PREAUTH quotad ready\r\n", 1)], 3),
+    (
+        &[(b"x", 16383), (b"\n", 1)],
+        &[(b"* PREAUTH quotad ready\r\n* BAD Not built yet\r\n", 1)],
+        0,
+    ),
+    (
+        &[(b"x", 16384)],
+        &[(b"* PREAUTH quotad ready\r\n* BYE Command too long\r\n", 1)],
+        0,
+    ),
+    (
+        &[(b"x", 16384), (b"\n", 1)],
+        &[(b"* PREAUTH quotad ready\r\n* BYE Command too long\r\n", 1)],
+        0,
+    ),
+];
+
+/// Ledgers at their limits.
+static LONG_LEDGERS: [LongRow; 3] = [
+    // A ledger has at most 5119 bytes: 3 or 4 of the definition's line, and 1279 lines of 4.
+    (
+        &[(b"0S\n", 1), (b"0 0\n", 1279)],
+        &[(b"definition 0S\nlines 1279\noctets 0\nmessages 0\n", 1)],
+        0,
+    ),
+    (
+        &[(b"00S\n", 1), (b"0 0\n", 1279)],
+        &[(b"too long 5120\n", 1)],
+        3,
+    ),
+    (&[(b"x", 65535)], &[(b"too long 65535\n", 1)], 3),
+];
+
+/// Longer inputs, of which 65536 bytes are read: 16 reads of 4096, and no more.
+static CUT_LEDGERS: [LongRow; 3] = [
+    (&[(b"x", 65536)], &[(b"too long 65536\n", 1)], 3),
+    (&[(b"x", 65537)], &[(b"too long 65536\n", 1)], 3),
+    (&[(b"x", 200000)], &[(b"too long 65536\n", 1)], 3),
+];
+
+/// The text of parts.
+fn joined(alloc: Global, parts: &[(&[u8], usize)]) -> Result<Vec<u8>, Fail> {
+    let mut text = Vec::new(alloc);
+    for (part, times) in parts {
+        for _ in 0..*times {
+            text.extend_from_slice(part)?;
+        }
+    }
+    Ok(text)
+}
+
 #[test]
-fn sessions_are_answered_whole(rt: HostRuntime) -> Result<(), Fail> {
-    let table: [(&[u8], &[u8], u8); 9] = [
-        (b"a1 GETQUOTA \"\"\r\na2 LOGOUT\r\n", WHOLE, 0),
-        (b"a1 GETQUOTA \"\"\na2 LOGOUT\n", WHOLE, 0),
-        (b"a1 getquota \"\"\r\na2 logout\r\nafter", WHOLE, 0),
-        (b"", GREETING, 0),
-        (
-            b"a1 GETQUOTA \"\"\r\n",
-            b"* PREAUTH quotad ready\r\n* QUOTA \"\" (STORAGE 0 512)\r\na1 OK GETQUOTA completed\r\n",
-            0,
-        ),
-        (b"a1 GETQUOTA \"\"", GREETING, 3),
-        (
-            b"\n",
-            b"* PREAUTH quotad ready\r\n* BAD Not built yet\r\n",
-            0,
-        ),
-        (
-            b"a1 NOOP\r\na2 LOGOUT\r\n",
-            b"* PREAUTH quotad ready\r\n* BAD Not built yet\r\n* BYE quotad closing\r\na2 OK LOGOUT completed\r\n",
-            0,
-        ),
-        (
-            b"a1 APPEND INBOX {3}\r\nabc\r\n",
-            b"* PREAUTH quotad ready\r\n* BAD Not built yet\r\n* BAD Not built yet\r\n",
-            0,
-        ),
+fn inputs_are_answered(rt: HostRuntime) -> Result<(), Fail> {
+    let tables: [(&[&str], &[Row]); 3] = [
+        (&["session", "512"], SESSIONS.as_slice()),
+        (&["session", "8796093022207"], MOST_UNITS.as_slice()),
+        (&["check"], LEDGERS.as_slice()),
     ];
-    for (input, output, status) in table {
-        for piece in [1, 4096] {
+    for (words, rows) in tables {
+        for (input, output, status) in rows {
+            for piece in [1, 4096] {
+                let run = Run {
+                    piece,
+                    ..plain(words, input)
+                };
+                let (ended, written) = outcome(rt.alloc(), &run)?;
+                assert_eq!(rt; written.as_slice(), *output, "{input:?}");
+                assert_eq!(rt; ended, *status, "{input:?}");
+            }
+        }
+    }
+    for words in &NO_FORMS {
+        let (status, written) = outcome(rt.alloc(), &plain(words, b"a1 LOGOUT\r\n"))?;
+        assert_eq!(rt; status, 1, "{words:?}");
+        assert_eq!(rt; written.as_slice(), USAGE, "{words:?}");
+    }
+    Ok(())
+}
+
+#[test]
+fn limits_of_length_are_kept(rt: HostRuntime) -> Result<(), Fail> {
+    let tables: [(&[&str], &[u64], &[LongRow]); 3] = [
+        (&["session", "512"], &[], LONG_SESSIONS.as_slice()),
+        (&["check"], &[], LONG_LEDGERS.as_slice()),
+        (&["check"], &[17, 18], CUT_LEDGERS.as_slice()),
+    ];
+    for (words, failing_reads, rows) in tables {
+        for (i, (input, output, status)) in rows.iter().enumerate() {
+            let input = joined(rt.alloc(), input)?;
             let run = Run {
-                piece,
-                ..plain(&["session", "512"], input)
+                failing_reads,
+                room: 8388608,
+                ..plain(words, &input)
             };
             let (ended, written) = outcome(rt.alloc(), &run)?;
-            assert_eq!(rt; ended, status, "{input:?}");
-            assert_eq!(rt; written.as_slice(), output, "{input:?}");
+            assert!(rt; written == joined(rt.alloc(), output)?, "row {i}");
+            assert_eq!(rt; ended, *status, "row {i}");
         }
     }
     Ok(())
 }
 
 #[test]
-fn units_have_their_range_and_words_their_form(rt: HostRuntime) -> Result<(), Fail> {
-    let table: [&[&str]; 15] = [
-        &["check", "5"],
-        &["Check"],
-        &["check", "check"],
-        &["session", "0"],
-        &["session", "8796093022208"],
-        &["session", "18446744073709551616"],
-        &["session", "01"],
-        &["session", "+5"],
-        &["session", "-5"],
-        &["session", ""],
-        &["session"],
-        &["session", "5", "5"],
-        &["Session", "5"],
-        &["imap"],
-        &[],
+fn faults_end_a_run_at_every_place(rt: HostRuntime) -> Result<(), Fail> {
+    let session: &[u8] = b"a1 GETQUOTA \"\"\r\na2 LOGOUT\r\n";
+    let ledger: &[u8] = b"1S\n1 1\n";
+    // Words and an input; its reads, and what is written if one of the first 16 fails or a later one; its writes.
+    let table: [(&[&str], &[u8], u64, usize, usize, u64); 2] = [
+        (&["session", "512"], session, 27, 24, 78, 124),
+        (&["check"], ledger, 7, 0, 0, 42),
     ];
-    for words in table {
-        let (status, written) = outcome(rt.alloc(), &plain(words, b"a1 LOGOUT\r\n"))?;
-        assert_eq!(rt; status, 1);
-        assert_eq!(rt; written.as_slice(), USAGE);
-    }
-    let most = plain(&["session", "8796093022207"], b"a GETQUOTA \"\"\r\n");
-    let (status, written) = outcome(rt.alloc(), &most)?;
-    let answer: &[u8] =
-        b"* PREAUTH quotad ready\r\n* QUOTA \"\" (STORAGE 0 8796093022207)\r\na OK GETQUOTA completed\r\n";
-    assert_eq!(rt; status, 0);
-    assert_eq!(rt; written.as_slice(), answer);
-    Ok(())
-}
-
-/// What a session with 512 units of storage answers to an input, behind the greeting.
-fn answers(alloc: Global, input: &[u8]) -> Result<Vec<u8>, Fail> {
-    let (status, written) = outcome(alloc, &plain(&["session", "512"], input))?;
-    if status != 0 || !written.as_slice().starts_with(GREETING) {
-        return Err("a session that ended otherwise".into());
-    }
-    Ok(written.as_slice()[GREETING.len()..].to_vec(alloc)?)
-}
-
-#[test]
-fn limits_are_replaced_or_refused(rt: HostRuntime) -> Result<(), Fail> {
-    let table: [(&[u8], &[u8]); 14] = [
-        // SETQUOTA replaces all limits.
-        (
-            b"a1 SETQUOTA \"\" (MESSAGE 10)\r\na2 GETQUOTA \"\"\r\n",
-            b"* QUOTA \"\" (MESSAGE 0 10)\r\na1 OK SETQUOTA completed\r\n* QUOTA \"\" (MESSAGE 0 10)\r\na2 OK GETQUOTA completed\r\n",
-        ),
-        // SETQUOTA with no limits.
-        (
-            b"a1 SETQUOTA \"\" ()\r\n",
-            b"* QUOTA \"\" ()\r\na1 OK SETQUOTA completed\r\n",
-        ),
-        // The range of a limit at both ends.
-        (
-            b"a1 SETQUOTA \"\" (STORAGE 0)\r\na2 SETQUOTA \"\" (STORAGE 8796093022208)\r\na3 SETQUOTA \"\" (STORAGE 8796093022207)\r\n",
-            b"a1 NO Limit not supported\r\na2 NO Limit not supported\r\n* QUOTA \"\" (STORAGE 0 8796093022207)\r\na3 OK SETQUOTA completed\r\n",
-        ),
-        (
-            b"a SETQUOTA \"\" (message 1 Storage 2)\n",
-            b"* QUOTA \"\" (STORAGE 0 2 MESSAGE 0 1)\r\na OK SETQUOTA completed\r\n",
-        ),
-        (
-            b"a SETQUOTA \"\" (MESSAGE 8796093022207)\n",
-            b"* QUOTA \"\" (MESSAGE 0 8796093022207)\r\na OK SETQUOTA completed\r\n",
-        ),
-        (
-            b"a SETQUOTA \"\" (MESSAGE 0)\n",
-            b"a NO Limit not supported\r\n",
-        ),
-        (
-            b"a SETQUOTA \"\" (MESSAGE 8796093022208)\n",
-            b"a NO Limit not supported\r\n",
-        ),
-        // The refusals in their order, over the whole list.
-        (
-            b"a SETQUOTA \"\" (STORAGE 0 STORAGE 1 MAILBOX 1)\n",
-            b"a NO Resource not supported\r\n",
-        ),
-        (
-            b"a SETQUOTA \"\" (X 1 X 1)\n",
-            b"a NO Resource not supported\r\n",
-        ),
-        (
-            b"a SETQUOTA \"\" (STORAGE 0 MESSAGE 1 storage 1)\n",
-            b"a NO Resource repeated\r\n",
-        ),
-        (
-            b"a SETQUOTA \"\" (MESSAGE 1 Message 0)\n",
-            b"a NO Resource repeated\r\n",
-        ),
-        (
-            b"a SETQUOTA nowhere (STORAGE 0)\n",
-            b"a NO Limit not supported\r\n",
-        ),
-        (
-            b"a SETQUOTA nowhere (STORAGE 1)\n",
-            b"a NO No such quota root\r\n",
-        ),
-        // A refusal leaves the limits.
-        (
-            b"a SETQUOTA \"\" (STORAGE 0)\nb SETQUOTA x ()\nc GETQUOTA \"\"\n",
-            b"a NO Limit not supported\r\nb NO No such quota root\r\n* QUOTA \"\" (STORAGE 0 512)\r\nc OK GETQUOTA completed\r\n",
-        ),
-    ];
-    for (input, output) in table {
-        let answered = answers(rt.alloc(), input)?;
-        assert_eq!(rt; answered.as_slice(), output, "{input:?}");
-    }
-    Ok(())
-}
-
-#[test]
-fn mailboxes_are_answered_with_their_roots(rt: HostRuntime) -> Result<(), Fail> {
-    let table: [(&[u8], &[u8]); 7] = [
-        (
-            b"a1 GETQUOTAROOT Nowhere\r\n",
-            b"* QUOTAROOT Nowhere \"\"\r\n* QUOTA \"\" (STORAGE 0 512)\r\na1 OK GETQUOTAROOT completed\r\n",
-        ),
-        (
-            b"a1 GETQUOTAROOT Trash\r\n",
-            b"* QUOTAROOT Trash\r\na1 OK GETQUOTAROOT completed\r\n",
-        ),
-        (
-            b"a1 GETQUOTAROOT inbox\r\n",
-            b"* QUOTAROOT INBOX \"\"\r\n* QUOTA \"\" (STORAGE 0 512)\r\na1 OK GETQUOTAROOT completed\r\n",
-        ),
-        (
-            b"a getquotaroot \"iNbOx\"\n",
-            b"* QUOTAROOT INBOX \"\"\r\n* QUOTA \"\" (STORAGE 0 512)\r\na OK GETQUOTAROOT completed\r\n",
-        ),
-        (
-            b"a GETQUOTAROOT \"a \\\"b\\\"\"\n",
-            b"* QUOTAROOT \"a \\\"b\\\"\" \"\"\r\n* QUOTA \"\" (STORAGE 0 512)\r\na OK GETQUOTAROOT completed\r\n",
-        ),
-        (
-            b"a GETQUOTAROOT \"\xc3\xa4\"\n",
-            b"* QUOTAROOT {2}\r\n\xc3\xa4 \"\"\r\n* QUOTA \"\" (STORAGE 0 512)\r\na OK GETQUOTAROOT completed\r\n",
-        ),
-        (
-            b"a GETQUOTAROOT \"\"\n",
-            b"* QUOTAROOT \"\" \"\"\r\n* QUOTA \"\" (STORAGE 0 512)\r\na OK GETQUOTAROOT completed\r\n",
-        ),
-    ];
-    for (input, output) in table {
-        let answered = answers(rt.alloc(), input)?;
-        assert_eq!(rt; answered.as_slice(), output, "{input:?}");
-    }
-    Ok(())
-}
-
-/// The line of a command on a name of so many bytes.
-fn line_of(alloc: Global, command: &[u8], length: usize, behind: &[u8]) -> Result<Vec<u8>, Fail> {
-    let mut line = b"a ".to_vec(alloc)?;
-    line.extend_from_slice(command)?;
-    line.push(b' ')?;
-    line.extend_from_slice(&vec![in alloc; b'x'; length]?)?;
-    line.extend_from_slice(behind)?;
-    line.push(b'\n')?;
-    Ok(line)
-}
-
-#[test]
-fn names_of_more_than_255_bytes_make_no_call(rt: HostRuntime) -> Result<(), Fail> {
-    let alloc = rt.alloc();
-    let no_root: &[u8] = b"a NO No such quota root\r\n";
-    for length in [255, 256, 16000] {
-        let line = line_of(alloc, b"GETQUOTA", length, b"")?;
-        assert_eq!(rt;
-            answers(alloc, &line)?.as_slice(),
-            no_root,
-            "{length} bytes"
-        );
-        let line = line_of(alloc, b"SETQUOTA", length, b" (STORAGE 1)")?;
-        assert_eq!(rt;
-            answers(alloc, &line)?.as_slice(),
-            no_root,
-            "{length} bytes"
-        );
-        let line = line_of(alloc, b"SETQUOTA", length, b" (STORAGE 0)")?;
-        let refused: &[u8] = b"a NO Limit not supported\r\n";
-        assert_eq!(rt;
-            answers(alloc, &line)?.as_slice(),
-            refused,
-            "{length} bytes"
-        );
-        let line = line_of(alloc, b"GETQUOTAROOT", length, b"")?;
-        let answered = answers(alloc, &line)?;
-        if length == 255 {
-            assert!(rt; answered.as_slice().starts_with(b"* QUOTAROOT xxx"));
-            assert!(rt;
-                answered.as_slice().ends_with(
-                    b"x \"\"\r\n* QUOTA \"\" (STORAGE 0 512)\r\na OK GETQUOTAROOT completed\r\n"
-                )
-            );
-        } else {
-            let refused: &[u8] = b"a NO Name too long\r\n";
-            assert_eq!(rt; answered.as_slice(), refused, "{length} bytes");
+    for (words, input, reads, early, late, writes) in table {
+        for read in 1..=reads {
+            let run = Run {
+                piece: 1,
+                failing_reads: &[read],
+                ..plain(words, input)
+            };
+            let (status, written) = outcome(rt.alloc(), &run)?;
+            assert_eq!(rt; status, 4, "read {read}");
+            let answered = if read <= 16 { early } else { late };
+            assert_eq!(rt; written.len(), answered, "read {read}");
         }
-    }
-    // The journal has no entry of them: with 65535 calls there is room for one more.
-    let mut input = Vec::new(alloc);
-    for _ in 0..65535 {
-        input.extend_from_slice(b"a GETQUOTA \"\"\n")?;
-    }
-    input.extend_from_slice(&line_of(alloc, b"GETQUOTA", 256, b"")?)?;
-    input.extend_from_slice(&line_of(alloc, b"GETQUOTAROOT", 256, b"")?)?;
-    input.extend_from_slice(b"b SETQUOTA \"\" (X 1)\nc GETQUOTA x\nd GETQUOTAROOT x\n")?;
-    let run = Run {
-        room: 8388608,
-        ..plain(&["session", "512"], &input)
-    };
-    let (status, written) = outcome(alloc, &run)?;
-    assert_eq!(rt; status, 0);
-    assert!(rt;
-        written.as_slice().ends_with(
-            b"a OK GETQUOTA completed\r\na NO No such quota root\r\na NO Name too long\r\nb NO Resource not supported\r\nc NO No such quota root\r\nd NO [LIMIT] Journal full\r\n"
-        )
-    );
-    Ok(())
-}
-
-#[test]
-fn a_line_has_at_most_16384_bytes(rt: HostRuntime) -> Result<(), Fail> {
-    let table: [(usize, bool, &[u8], u8); 4] = [
-        (16383, false, GREETING, 3),
-        (
-            16383,
-            true,
-            b"* PREAUTH quotad ready\r\n* BAD Not built yet\r\n",
-            0,
-        ),
-        (
-            16384,
-            false,
-            b"* PREAUTH quotad ready\r\n* BYE Command too long\r\n",
-            0,
-        ),
-        (
-            16384,
-            true,
-            b"* PREAUTH quotad ready\r\n* BYE Command too long\r\n",
-            0,
-        ),
-    ];
-    for (length, is_ended, output, status) in table {
-        let mut input = vec![in rt.alloc(); b'x'; length]?;
-        if is_ended {
-            input.push(b'\n')?;
+        for write in 1..=writes {
+            let run = Run {
+                piece: 1,
+                failing_writes: &[write],
+                ..plain(words, input)
+            };
+            let (status, written) = outcome(rt.alloc(), &run)?;
+            assert_eq!(rt; status, 5, "write {write}");
+            assert_eq!(rt; written.len() + 1, write as usize, "write {write}");
         }
-        let (ended, written) = outcome(rt.alloc(), &plain(&["session", "512"], &input))?;
-        assert_eq!(rt; ended, status, "{length} bytes");
-        assert_eq!(rt; written.as_slice(), output, "{length} bytes");
-    }
-    Ok(())
-}
-
-#[test]
-fn faults_end_a_session_at_every_place(rt: HostRuntime) -> Result<(), Fail> {
-    let input = b"a1 GETQUOTA \"\"\r\na2 LOGOUT\r\n";
-    for read in 1..28 {
-        let run = Run {
-            piece: 1,
-            failing_reads: &[read],
-            ..plain(&["session", "512"], input)
-        };
-        let (status, written) = outcome(rt.alloc(), &run)?;
-        assert_eq!(rt; status, 4, "read {read}");
-        let answered = if read <= 16 { 24 } else { 78 };
-        assert_eq!(rt; written.len(), answered, "read {read}");
-    }
-    for write in 1..125 {
-        let run = Run {
-            piece: 1,
-            failing_writes: &[write],
-            ..plain(&["session", "512"], input)
-        };
-        let (status, written) = outcome(rt.alloc(), &run)?;
-        assert_eq!(rt; status, 5, "write {write}");
-        assert_eq!(rt; written.len() + 1, write as usize, "write {write}");
     }
     let full = Run {
         room: 10,
@@ -384,152 +522,5 @@ fn faults_end_a_session_at_every_place(rt: HostRuntime) -> Result<(), Fail> {
     let (status, written) = outcome(rt.alloc(), &full)?;
     assert_eq!(rt; status, 5);
     assert_eq!(rt; written.as_slice(), b"usage: quo".as_slice());
-    Ok(())
-}
-
-#[test]
-fn a_journal_of_65536_calls_is_full(rt: HostRuntime) -> Result<(), Fail> {
-    let alloc = rt.alloc();
-    let mut input = Vec::new(alloc);
-    for _ in 0..65537 {
-        input.extend_from_slice(b"a GETQUOTA \"\"\n")?;
-    }
-    let run = Run {
-        room: 8388608,
-        ..plain(&["session", "512"], &input)
-    };
-    let (status, written) = outcome(alloc, &run)?;
-    assert_eq!(rt; status, 0);
-    assert!(rt;
-        written.as_slice().ends_with(b"a OK GETQUOTA completed\r\na NO [LIMIT] Journal full\r\n")
-    );
-    assert_eq!(rt; written.len(), 24 + 65536 * 53 + 27);
-    Ok(())
-}
-
-/// What `check` says of these bytes, and its status.
-fn checked(alloc: Global, bytes: &[u8]) -> Result<(u8, Vec<u8>), Fail> {
-    outcome(alloc, &plain(&["check"], bytes))
-}
-
-#[test]
-fn ledgers_are_checked(rt: HostRuntime) -> Result<(), Fail> {
-    let table: [(&[u8], &[u8], u8); 16] = [
-        // Two lines are added up.
-        (
-            b"10000000S,1000C\n1234 1\n-1234 -1\n",
-            b"definition 10000000S,1000C\nlines 2\noctets 0\nmessages 0\n",
-            0,
-        ),
-        // The same without the last line feed.
-        (b"10000000S,1000C\n1234 1\n-1234 -1", b"torn at 23\n", 3),
-        (b"1S;\n", b"bad definition at 0\n", 3),
-        (b"1S\n1\nx\n", b"bad line 2\n", 3),
-        (b"", b"torn at 0\n", 3),
-        (b"\n", b"definition 0S\nlines 0\noctets 0\nmessages 0\n", 0),
-        (
-            b"5C,7S\n",
-            b"definition 7S,5C\nlines 0\noctets 0\nmessages 0\n",
-            0,
-        ),
-        (
-            b"1S,2S,3s\n  -5   -1  \n",
-            b"definition 2S\nlines 1\noctets -5\nmessages -1\n",
-            0,
-        ),
-        (
-            b"5S,0S\n",
-            b"definition 0S\nlines 0\noctets 0\nmessages 0\n",
-            0,
-        ),
-        (
-            b"0S\n999999999999999999 1\n999999999999999999 1\n",
-            b"definition 0S\nlines 2\noctets 1999999999999999998\nmessages 2\n",
-            0,
-        ),
-        (b"0S\n1000000000000000000 1\n", b"bad line 2\n", 3),
-        (b"0S\n1\t1\n", b"bad line 2\n", 3),
-        (b"0S\n1 1\r\n", b"bad line 2\n", 3),
-        (b"1S,\n", b"bad definition at 3\n", 3),
-        (b"1S", b"torn at 0\n", 3),
-        (b"1S\n1 1\nx", b"torn at 7\n", 3),
-    ];
-    for (bytes, output, status) in table {
-        for piece in [1, 4096] {
-            let run = Run {
-                piece,
-                ..plain(&["check"], bytes)
-            };
-            let (ended, written) = outcome(rt.alloc(), &run)?;
-            assert_eq!(rt; written.as_slice(), output, "{bytes:?}");
-            assert_eq!(rt; ended, status, "{bytes:?}");
-        }
-    }
-    Ok(())
-}
-
-#[test]
-fn long_ledgers_are_checked(rt: HostRuntime) -> Result<(), Fail> {
-    let alloc = rt.alloc();
-    // A definition of 2 or 3 bytes with its line feed, and 1279 lines of 4 bytes.
-    for (definition, length) in [("0S", 5119), ("00S", 5120)] {
-        let mut ledger = definition.as_bytes().to_vec(alloc)?;
-        ledger.push(b'\n')?;
-        for _ in 0..1279 {
-            ledger.extend_from_slice(b"0 0\n")?;
-        }
-        assert_eq!(rt; ledger.len(), length);
-        let (status, written) = checked(alloc, &ledger)?;
-        let whole: &[u8] = b"definition 0S\nlines 1279\noctets 0\nmessages 0\n";
-        let refused: &[u8] = b"too long 5120\n";
-        assert_eq!(rt;
-            written.as_slice(),
-            if length == 5119 { whole } else { refused }
-        );
-        assert_eq!(rt; status, if length == 5119 { 0 } else { 3 });
-    }
-    // Of a longer input 65536 bytes are read, and the next is not asked for.
-    let table: [(usize, &[u8]); 4] = [
-        (65535, b"too long 65535\n"),
-        (65536, b"too long 65536\n"),
-        (65537, b"too long 65536\n"),
-        (200000, b"too long 65536\n"),
-    ];
-    for (length, output) in table {
-        let bytes = vec![in alloc; b'x'; length]?;
-        let run = Run {
-            piece: 65536,
-            failing_reads: if length < 65536 { &[] } else { &[17, 18] },
-            ..plain(&["check"], &bytes)
-        };
-        let (status, written) = outcome(alloc, &run)?;
-        assert_eq!(rt; written.as_slice(), output, "{length} bytes");
-        assert_eq!(rt; status, 3, "{length} bytes");
-    }
-    Ok(())
-}
-
-#[test]
-fn faults_end_a_check(rt: HostRuntime) -> Result<(), Fail> {
-    for read in 1..8 {
-        let run = Run {
-            piece: 1,
-            failing_reads: &[read],
-            ..plain(&["check"], b"1S\n1 1\n")
-        };
-        let (status, written) = outcome(rt.alloc(), &run)?;
-        assert_eq!(rt; status, 4, "read {read}");
-        assert!(rt; written.is_empty(), "read {read}");
-    }
-    for write in 1..43 {
-        let run = Run {
-            piece: 1,
-            failing_writes: &[write],
-            ..plain(&["check"], b"1S\n1 1\n")
-        };
-        let (status, written) = outcome(rt.alloc(), &run)?;
-        assert_eq!(rt; status, 5, "write {write}");
-        assert_eq!(rt; written.len() + 1, write as usize, "write {write}");
-    }
     Ok(())
 }
