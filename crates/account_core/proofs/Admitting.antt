@@ -1,10 +1,9 @@
 -- Messages that fit, and what becomes of the usages where one is accepted.
-use Rattle.std.proofs.Common.{◌≡◌, ℕ, zero, suc, ◌+◌, ◌<◌, ◌↔◌, Bool, true, false, cond, not, ◌&&◌, List, [], ◌∷◌, ◌++◌, length, get_or, Option, Some, None, arith, refl, sym, ◌∙◌, ap, inl, inr, codes}
+use Rattle.std.proofs.Common.{◌≡◌, ℕ, zero, suc, ◌+◌, ◌<◌, ◌↔◌, Bool, true, false, cond, not, ◌&&◌, List, [], ◌∷◌, ◌++◌, length, get_or, Option, Some, None, arith, refl, sym, ◌∙◌, ap, codes}
 use Rattle.std.specs.List.{Contains, filter_map, cons_option, slice_get}
-use Rattle.std.specs.Option.{option_map, option_map_or}
-use Rattle.std.proofs.lemmas.Bool.{and_parts, false≢true, cases_lt}
+use Rattle.std.specs.Option.{option_map}
+use Rattle.std.proofs.lemmas.Bool.{and_parts, false≢true}
 use Rattle.std.proofs.lemmas.List.Elements.{All-contains, Contains-get_or}
-use Rattle.std.proofs.lemmas.Option.{slice_get_past}
 use Rattle.quota_units.specs.Limiting.{LimitNumbers}
 use Rattle.quota_units.specs.declared.flags.Flags.{Flags}
 use Rattle.quota_units.specs.declared.resource.Resource.{Resource}
@@ -12,8 +11,10 @@ use Rattle.quota_units.specs.declared.resource.Resource.TheVariants.{Storage, Me
 use Rattle.quota_units.specs.declared.totals.Totals.{Totals}
 use Rattle.quota_roots.specs.declared.root.RootSpec.{RootSpec}
 use Rattle.quota_roots.specs.Governing.{governs, governs_at, governing}
-use Rattle.quota_roots.proofs.GoverningLemmas.{governing_members, governs_at_get_or}
+use Rattle.quota_roots.proofs.GoverningLemmas.{governing_members, governs_at_get_or, governed_inside}
 use Rattle.admission.specs.Fitting.{allows, over, first_over, limits_at, totals_at, fits_root, FitsEach}
+use Rattle.admission.proofs.FirstLemmas.{named, no_first}
+use Rattle.quota_units.proofs.SumLemmas.{same_totals}
 use Rattle.account_core.specs.declared.calls.Call.TheVariants.{Deliver}
 use Rattle.account_core.specs.declared.calls.Entry.{Entry}
 use Rattle.account_core.specs.declared.calls.Reply.{Reply}
@@ -24,9 +25,6 @@ use Rattle.account_core.specs.History.{replay, reply, entry_of}
 use Rattle.account_core.specs.Legality.{AreWithin, FitsIn, NoneBroken, IsOver, OverWhereNoFit}
 use Rattle.account_core.proofs.Replaying.{replay_more}
 use Rattle.account_core.proofs.MessageSums.{counted_push}
-
-abbrev named : (ℕ → Option Resource) → ℕ → Option (ℕ × Resource)
-named h root = option_map (λ resource. (root, resource)) (h root)
 
 none_of : (h : ℕ → Option Resource) (x : ℕ) (xs : List ℕ) (o : Option Resource) → h x ≡ o → slice_get (filter_map (named h) (x ∷ xs)) 0 ≡ None
     → (h x ≡ None) × (slice_get (filter_map (named h) xs) 0 ≡ None)
@@ -39,15 +37,6 @@ none_at : (h : ℕ → Option Resource) (roots : List ℕ) → slice_get (filter
 none_at h [] none k has = absurd (omega (arith, has.1))
 none_at h (x ∷ xs) none k (zero, inside, same) = ap h (sym same) ∙ (none_of h x xs (h x) refl none).0
 none_at h (x ∷ xs) none k (suc i, inside, same) = none_at h xs (none_of h x xs (h x) refl none).1 k (i, omega arith, same)
-
-behind : (x : ℕ) (xs : List ℕ) (n : ℕ) → Contains xs n → Contains (x ∷ xs) n
-behind x xs n has = (suc has.0, omega (arith, has.1), has.2)
-
-no_first : (h : ℕ → Option Resource) (roots : List ℕ) → ((k : ℕ) → Contains roots k → h k ≡ None) → slice_get (filter_map (named h) roots) 0 ≡ None
-no_first h [] none = refl
-no_first h (x ∷ xs) none =
-    ap (λ o. slice_get (cons_option (option_map (λ resource. (x, resource)) o) (filter_map (named h) xs)) 0) (none x (0, omega arith, refl))
-    ∙ no_first h xs (λ k in_xs. none k (behind x xs k in_xs))
 
 choice_fits : (storage number : Bool) → cond (not storage) (Some Storage) (cond (not number) (Some MessageCount) None) ≡ None → (storage && number) ≡ true
 choice_fits true true none = refl
@@ -74,9 +63,6 @@ pub totals_at-usages : (roots : List RootSpec) (account : Account) (root : ℕ) 
 totals_at-usages [] account root d inside = absurd (omega arith)
 totals_at-usages (x ∷ roots) account zero d inside = refl
 totals_at-usages (x ∷ roots) account (suc root) d inside = totals_at-usages roots account root d (omega arith)
-
-pub same_totals : {a b c d : ℕ} → a ≡ c → b ≡ d → (let x : Totals = record { octets = a; count = b } in x) ≡ record { octets = c; count = d }
-same_totals {b = b} {c = c} e f = ap (λ n. let x : Totals = record { octets = n; count = b } in x) e ∙ ap (λ n. let x : Totals = record { octets = c; count = n } in x) f
 
 -- what a root that governs the mailbox has, once the message stands at the end
 usage_push : (root : RootSpec) (account : Account) (message : Message) → governs root message.mailbox ≡ true
@@ -130,15 +116,9 @@ module _ (roots : List RootSpec) (opening : Account) (history : List Entry) (cal
       let kept : after.limits ≡ before.limits = ap (λ (a : Account). a.limits) (after_is number given) in
       within_from _ _ _ _ _ octets had (ap (λ ls. limits_at ls root) kept) has fits
 
-pub inside_of : (roots : List RootSpec) (mailbox : List ℕ) (root : ℕ) → governs_at roots root mailbox ≡ true → root < length roots
-inside_of roots mailbox root governed = elim (cases_lt root (length roots)) [
-  | inl inside ↦ inside
-  | inr past ↦ absurd (false≢true (sym (ap (λ o. option_map_or (λ spec. governs spec mailbox) o false) (slice_get_past roots root past)) ∙ governed))
-]
-
 pub none_broken : NoneBroken
 none_broken roots opening history caller mailbox octets flags number given root governed =
-    root_within roots opening history caller mailbox octets flags number root given governed (inside_of roots mailbox root governed)
+    root_within roots opening history caller mailbox octets flags number root given governed (governed_inside roots mailbox root governed)
 
 pub over_is : (o : Option (ℕ × Resource)) (given : Reply) → (IsOver given → ⊥) → (IsOver (over_or o given) ↔ (o ≡ None → ⊥))
 over_is None given other = (λ is. absurd (other is), λ no. absurd (no refl))

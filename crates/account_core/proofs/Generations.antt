@@ -5,6 +5,7 @@ use Rattle.quota_units.specs.declared.flags.Flags.{Flags}
 use Rattle.quota_units.specs.declared.resource.Resource.{Resource}
 use Rattle.quota_roots.specs.declared.root.RootSpec.{RootSpec}
 use Rattle.quota_roots.specs.Governing.{gaining, governs}
+use Rattle.quota_units.proofs.SumLemmas.{same_totals}
 use Rattle.account_core.specs.declared.calls.Call.{Call}
 use Rattle.account_core.specs.declared.calls.Call.TheVariants.{Deliver, Check, Remove, Mark, Move, Quota, SetLimits, Roots, Status, ScanBegin, ScanPart, Install}
 use Rattle.account_core.specs.declared.calls.Entry.{Entry}
@@ -18,7 +19,6 @@ use Rattle.account_core.specs.Machine.{has_mailbox, if_message, usages, over_of,
 use Rattle.account_core.specs.Scanning.{status_of, part_of}
 use Rattle.account_core.specs.History.{replay, account_after}
 use Rattle.account_core.specs.Generations.{is_change, changes, generation, unflagged, GenerationIsCounted, EqualGenerationEqualUsage}
-use Rattle.account_core.proofs.Admitting.{same_totals}
 
 -- the mark of a message leaves all but its flags
 unflagged_marked_step : (flags : Flags) (b : Bool) (first : Message) (rest rest' : List Message) → map unflagged rest' ≡ map unflagged rest

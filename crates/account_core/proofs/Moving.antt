@@ -6,8 +6,9 @@ use Rattle.std.proofs.lemmas.Slice.Eq.{bytes_eq-Decides}
 use Rattle.quota_units.specs.declared.resource.Resource.{Resource}
 use Rattle.quota_roots.specs.declared.root.RootSpec.{RootSpec}
 use Rattle.quota_roots.specs.Governing.{gaining, governs, governs_at}
-use Rattle.quota_roots.proofs.GoverningLemmas.{gaining_members, governs_at_get_or}
+use Rattle.quota_roots.proofs.GoverningLemmas.{gaining_members, governs_at_get_or, governed_inside}
 use Rattle.admission.specs.Fitting.{limits_at, totals_at, fits_root}
+use Rattle.quota_units.proofs.SumLemmas.{same_totals}
 use Rattle.account_core.specs.declared.calls.Call.TheVariants.{Move}
 use Rattle.account_core.specs.declared.calls.Entry.{Entry}
 use Rattle.account_core.specs.declared.calls.Reply.{Reply}
@@ -19,7 +20,7 @@ use Rattle.account_core.specs.History.{replay, reply, entry_of}
 use Rattle.account_core.specs.Legality.{AreWithin, IsOver, MayMove, NoneBrokenByMoves, MoveOverWhereNoFit}
 use Rattle.account_core.proofs.Replaying.{replay_more}
 use Rattle.account_core.proofs.MessageSums.{counted_moved}
-use Rattle.account_core.proofs.Admitting.{fits_all, none_over, totals_at-usages, same_totals, within_from, inside_of, over_is}
+use Rattle.account_core.proofs.Admitting.{fits_all, none_over, totals_at-usages, within_from, over_is}
 
 -- An answer that is none of the refusals: what it says of each thing that is looked at, in their order.
 module _ (Is : Reply → Type 0) (mailbox : Is NoMailbox → ⊥) (no_message : Is NoMessage → ⊥) (taken : Is NameTaken → ⊥) (roots : List RootSpec) (account : Account) (from base to : List ℕ) where
@@ -172,4 +173,4 @@ module _ (roots : List RootSpec) (opening : Account) (history : List Entry) (cal
 
 pub none_broken_by_moves : NoneBrokenByMoves
 none_broken_by_moves roots opening history caller from base to given root governed free =
-    root_within roots opening history caller from base to root given governed free (inside_of roots to root governed)
+    root_within roots opening history caller from base to root given governed free (governed_inside roots to root governed)

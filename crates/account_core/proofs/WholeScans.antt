@@ -10,6 +10,7 @@ use Rattle.quota_units.specs.declared.resource.Resource.{Resource}
 use Rattle.quota_roots.specs.declared.root.RootSpec.{RootSpec}
 use Rattle.quota_roots.specs.Governing.{gaining, governs}
 use Rattle.quota_roots.specs.Setups.{are_different}
+use Rattle.quota_units.proofs.SumLemmas.{same_totals}
 use Rattle.account_core.specs.declared.calls.Call.{Call}
 use Rattle.account_core.specs.declared.calls.Call.TheVariants.{Deliver, Check, Remove, Mark, Move, Quota, SetLimits, Roots, Status, ScanBegin, ScanPart, Install}
 use Rattle.account_core.specs.declared.calls.Entry.{Entry}
@@ -19,7 +20,6 @@ use Rattle.account_core.specs.Messages.{is_message, named_message, removed, chan
 use Rattle.account_core.specs.Machine.{has_mailbox, if_message, over_of, over_in, over_or, step, delivered_message, delivered_after, removed_after, marked_after, moving_reply, moved_after}
 use Rattle.account_core.specs.History.{replay, account_after}
 use Rattle.account_core.specs.WholeScans.{are_housed, WholeScanIsUsage}
-use Rattle.account_core.proofs.Admitting.{same_totals}
 
 -- a test that each message passes, each passes still where one is taken away or changed
 

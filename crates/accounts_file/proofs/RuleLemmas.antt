@@ -1,5 +1,5 @@
 -- What texts that may stand at their keys are.
-use Rattle.std.proofs.Common.{◌≡◌, ℕ, suc, ◌+◌, ◌≤◌, Bool, true, false, not, ◌&&◌, cond, List, [], ◌∷◌, length, map, codes, bytes_eq, nat_eq, eqb, eq-eqb, ltb, ltb-false, lt-ltb, le-ltb, Option, None, Some, is_some, unwrap_or, option_map, position, arith, refl, ◌∙◌, sym, ap, inl, inr}
+use Rattle.std.proofs.Common.{◌≡◌, ℕ, suc, ◌+◌, ◌≤◌, Bool, true, false, not, ◌&&◌, cond, List, [], ◌∷◌, length, map, codes, bytes_eq, nat_eq, eqb, eq-eqb, ltb, lt-ltb, le-ltb, Option, None, Some, is_some, unwrap_or, option_map, position, arith, refl, ◌∙◌, sym, ap, inl, inr}
 use Rattle.std.specs.List.{list_all, position_or_len, remove}
 use Rattle.std.specs.Option.{option_and_then}
 use Rattle.std.specs.Str.{str_eq_ignore_ascii_case}
@@ -8,6 +8,7 @@ use Rattle.quota_roots.specs.MailboxNames.{canonical}
 use Rattle.quota_roots.specs.RootLists.{is_prefix_at, is_root_name}
 use Rattle.quota_roots.specs.Setups.{is_mailbox}
 use Rattle.toml.specs.Data.{Data, Members, as_str}
+use Rattle.quota_units.proofs.PlaceLemmas.{place_is, no_place}
 use Rattle.accounts_file.specs.declared.key.Key.{Key}
 use Rattle.accounts_file.specs.declared.key.Key.TheVariants.{Mailboxes, Prefix, RootName}
 use Rattle.accounts_file.specs.declared.error.AccountsError.{AccountsError}
@@ -90,14 +91,6 @@ without_by_place : (name : List ℕ) (names : List (List ℕ)) → without_first
 without_by_place name [] = refl
 without_by_place name (other ∷ names) =
     without_step (bytes_eq other name) other names (without_first name names) (position_or_len (λ o. bytes_eq o name) names) (without_by_place name names)
-
-place_is : (b : Bool) (n at : ℕ) → Some at ≡ cond b (Some n) None → at ≡ n
-place_is true n at h = cc
-place_is false n at h = cc
-
-no_place : (n long : ℕ) → None ≡ cond (ltb n long) (Some n) None → long ≤ n
-no_place n long h = let P : Bool → Type 0 = λ b. ltb n long ≡ b → None ≡ cond b (Some n) None → long ≤ n in
-    elim (ltb n long) as P [ true ↦ λ e k. absurd (cc) | false ↦ λ e k. ltb-false n long e ] refl h
 
 pub without_at : (name : List ℕ) (names : List (List ℕ)) (at : ℕ) → Some at ≡ position (λ (other : List ℕ). bytes_eq other name) names → remove names at ≡ without_first name names
 without_at name names at found =

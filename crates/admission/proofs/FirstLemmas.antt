@@ -13,14 +13,14 @@ use Rattle.quota_units.specs.declared.resource.Resource.{Resource}
 use Rattle.quota_units.specs.declared.resource.Resource.TheVariants.{Storage, Message}
 use Rattle.admission.specs.Fitting.{over, first_over, limits_at, totals_at, fits_root, FitsEach}
 
-abbrev named : (ℕ → Option Resource) → ℕ → Option (ℕ × Resource)
+abbrev pub named : (ℕ → Option Resource) → ℕ → Option (ℕ × Resource)
 named h root = option_map (λ resource. (root, resource)) (h root)
 
 in_rest : (x : ℕ) (xs : List ℕ) (n : ℕ) → (x ≡ n → ⊥) → Contains (x ∷ xs) n → Contains xs n
 in_rest x xs n other (zero, inside, same) = absurd (other same)
 in_rest x xs n other (suc k, inside, same) = (k, omega arith, same)
 
-behind : (x : ℕ) (xs : List ℕ) (n : ℕ) → Contains xs n → Contains (x ∷ xs) n
+pub behind : (x : ℕ) (xs : List ℕ) (n : ℕ) → Contains xs n → Contains (x ∷ xs) n
 behind x xs n has = (suc has.0, omega (arith, has.1), has.2)
 
 rest_in_order : (x : ℕ) (xs : List ℕ) → AllPairs (λ a b. a < b) (x ∷ xs) → AllPairs (λ a b. a < b) xs
@@ -47,7 +47,7 @@ first_at h (x ∷ xs) n resource order none has over = elim (cases_eq x n) [
       ap (λ ps. slice_get ps 0) (skipped h x xs no) ∙ first_at h xs n resource (rest_in_order x xs order) (λ k below in_xs. none k below (behind x xs k in_xs)) later over
 ]
 
-no_first : (h : ℕ → Option Resource) (roots : List ℕ) → ((k : ℕ) → Contains roots k → h k ≡ None) → slice_get (filter_map (named h) roots) 0 ≡ None
+pub no_first : (h : ℕ → Option Resource) (roots : List ℕ) → ((k : ℕ) → Contains roots k → h k ≡ None) → slice_get (filter_map (named h) roots) 0 ≡ None
 no_first h [] none = refl
 no_first h (x ∷ xs) none =
     ap (λ ps. slice_get ps 0) (skipped h x xs (none x (0, omega arith, refl))) ∙ no_first h xs (λ k in_xs. none k (behind x xs k in_xs))

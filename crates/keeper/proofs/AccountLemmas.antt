@@ -3,7 +3,7 @@ use Rattle.std.proofs.Common.{◌≡◌, ℕ, ◌+◌, ◌<◌, Bool, true, fals
 use Rattle.std.specs.List.{position_or_len}
 use Rattle.std.proofs.lemmas.List.{set_past, get_or_past, get_or_default}
 use Rattle.keeper.specs.Accounts.{keeper_in, with_keeper}
-use Rattle.keeper.proofs.PlaceLemmas.{place_is, no_place}
+use Rattle.quota_units.proofs.PlaceLemmas.{place_is, no_place}
 
 module _ {K : Type 0} where
   abbrev place : List ℕ → List (List ℕ × Option K) → ℕ

@@ -1,6 +1,5 @@
 pub mod AccountLemmas
 pub mod LedgerLemmas
-pub mod PlaceLemmas
 pub mod PlanLemmas
 pub mod RowLemmas
 pub mod Changing

@@ -3,7 +3,7 @@ use Rattle.std.proofs.Common.{◌≡◌, ℕ, ◌+◌, ◌≤◌, Bool, true, fa
 use Rattle.std.proofs.lemmas.List.{take_all, append-nil, set_past}
 use Rattle.std.proofs.Math.ListN.{drop_of_length-le}
 use Rattle.std.specs.List.{position_or_len, remove}
-use Rattle.keeper.proofs.PlaceLemmas.{place_is, no_place}
+use Rattle.quota_units.proofs.PlaceLemmas.{place_is, no_place}
 use Rattle.keeper.specs.Files.{Row, is_named, removed, renamed}
 
 removed_step : (b : Bool) (x : Row) (xs rest : List Row) (k : ℕ) → rest ≡ remove xs k → cond b xs (x ∷ rest) ≡ remove (x ∷ xs) (cond (not b) (1 + k) 0)

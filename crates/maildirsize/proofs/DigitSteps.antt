@@ -6,10 +6,7 @@ use Rattle.std.specs.Str.Parse.{digits_value}
 use Rattle.std.proofs.lemmas.Int.Digits.{digits_value_more}
 use Rattle.std.proofs.lemmas.List.Sums.{prefix_len-drop_yes}
 use Rattle.std.proofs.lemmas.Str.{digit_value_digit}
-use Rattle.quota_units.proofs.DigitLemmas.{digit_range}
-
-cut_step : (v d c : ℕ) → d ≤ 9 → min (min v c * 10 + d) c ≡ min (v * 10 + d) c
-cut_step v d c h = omega arith
+use Rattle.quota_units.proofs.DigitLemmas.{digit_range, cut_step}
 
 pub digit_step : (bs : List ℕ) (i : ℕ) → i < length bs → is_ascii_digit (get_or bs i 0) ≡ true
     → (min (min (digits_value 10 (take i bs)) 1000000000000000000 * 10 + (get_or bs i 0 - 48)) 1000000000000000000 ≡ min

@@ -7,10 +7,7 @@ use Rattle.std.proofs.lemmas.Bool.{and_from}
 use Rattle.std.proofs.lemmas.Int.Digits.{digits_value_more}
 use Rattle.std.proofs.lemmas.List.Folds.{list_all_more}
 use Rattle.std.proofs.lemmas.Str.{digit_value_digit}
-use Rattle.quota_units.proofs.DigitLemmas.{digit_range}
-
-cut_step : (v d c : ℕ) → d ≤ 9 → min (min v c * 10 + d) c ≡ min (v * 10 + d) c
-cut_step v d c h = omega arith
+use Rattle.quota_units.proofs.DigitLemmas.{digit_range, cut_step}
 
 pub digit_step : (bs : List ℕ) (i : ℕ) → i < length bs → list_all is_ascii_digit (take i bs) ≡ true → is_ascii_digit (get_or bs i 0) ≡ true
     → (min (min (digits_value 10 (take i bs)) 1099511627775 * 10 + (get_or bs i 0 - 48)) 1099511627775

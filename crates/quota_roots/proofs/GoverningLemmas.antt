@@ -32,8 +32,8 @@ all_below roots mailbox n =
     All-filter (λ root. governs_at roots root mailbox) (λ root. root < n) (range_with_len 0 n)
     (λ k d inside. omega (arith, inside, length-range_with_len 0 n, get_or-range_with_len 0 n k d (omega (arith, inside, length-range_with_len 0 n))))
 
-within : (roots : List RootSpec) (mailbox : List ℕ) (root : ℕ) → governs_at roots root mailbox ≡ true → root < length roots
-within roots mailbox root governed = elim (cases_lt root (length roots)) [
+pub governed_inside : (roots : List RootSpec) (mailbox : List ℕ) (root : ℕ) → governs_at roots root mailbox ≡ true → root < length roots
+governed_inside roots mailbox root governed = elim (cases_lt root (length roots)) [
   | inl inside ↦ inside
   | inr past ↦ absurd (false≢true (sym (ap (λ o. option_map_or (λ spec. governs spec mailbox) o false) (slice_get_past roots root past)) ∙ governed))
 ]
@@ -44,7 +44,7 @@ governing_members roots mailbox root =
     let numbers = range_with_len 0 (length roots) in
     let both = is_in-filter p root numbers in (
       λ has. (and_parts _ _ (sym both ∙ is_in-from_Contains _ root has)).1,
-      λ governed. let inside = within roots mailbox root governed in
+      λ governed. let inside = governed_inside roots mailbox root governed in
           Contains-from_is_in _ root (both ∙ and_from _ _ (range-is_in root (length roots) 0 (omega arith) (omega arith)) governed),
     )
 
@@ -83,6 +83,6 @@ gaining_members roots from to root =
       λ has. let is = (and_parts _ _ (sym both ∙ is_in-from_Contains _ root has)).1 in
           let parts = and_parts _ _ is in
           (parts.0, not-true _ parts.1),
-      λ governed. let inside = within roots to root governed.0 in
+      λ governed. let inside = governed_inside roots to root governed.0 in
           Contains-from_is_in _ root (both ∙ and_from _ _ (range-is_in root (length roots) 0 (omega arith) (omega arith)) (and_from _ _ governed.0 (ap not governed.1))),
     )

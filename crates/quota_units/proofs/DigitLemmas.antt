@@ -1,5 +1,5 @@
 -- One digit more.
-use Rattle.std.proofs.Common.{◌≡◌, ℕ, ◌+◌, ◌-◌, ◌*◌, ◌^◌, ◌<◌, ◌≤◌, List, [], ◌∷◌, length, take, get_or, Bool, true, ◌&&◌, arith, refl, sym, ◌∙◌, ap, subst, length-take, lit<, ltb, leb, lt-ltb, le-leb, false, Some, None, if◌then◌else◌, inl, inr}
+use Rattle.std.proofs.Common.{◌≡◌, ℕ, min, ◌+◌, ◌-◌, ◌*◌, ◌^◌, ◌<◌, ◌≤◌, List, [], ◌∷◌, length, take, get_or, Bool, true, ◌&&◌, arith, refl, sym, ◌∙◌, ap, subst, length-take, lit<, ltb, leb, lt-ltb, le-leb, false, Some, None, if◌then◌else◌, inl, inr}
 use Rattle.std.specs.Fmt.{decimal}
 use Rattle.std.proofs.lemmas.Fmt.{decimal-digits_value, digits_decimal, digits_value-decimal, decimal_nonempty, length-decimal-le, first_decimal, decimal_digit}
 use Rattle.std.proofs.lemmas.Str.Parse.{IsNumeralModel, numerals_by_value, tells_digits, digit_from_value}
@@ -19,6 +19,10 @@ digit_range c h = grind (arith, nat_tests)
 
 small : (c : ℕ) → is_ascii_digit c ≡ true → digit_value c < 10
 small c h = let r = digit_range c h in let v = digit_value_digit c r in omega arith
+
+-- a number that is cut, with one digit more
+pub cut_step : (v d c : ℕ) → d ≤ 9 → min (min v c * 10 + d) c ≡ min (v * 10 + d) c
+cut_step v d c h = omega arith
 
 pub all_digits : (ds : List ℕ) → list_all is_ascii_digit ds ≡ true → AllDigits 10 ds
 all_digits [] h = tt

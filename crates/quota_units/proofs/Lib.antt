@@ -1,3 +1,5 @@
 pub mod CutLemmas
 pub mod DigitLemmas
 pub mod FlagLemmas
+pub mod SumLemmas
+pub mod PlaceLemmas

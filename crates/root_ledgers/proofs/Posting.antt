@@ -12,6 +12,7 @@ use Rattle.quota_units.specs.declared.totals.Totals.{Totals}
 use Rattle.keeper.specs.Files.{bytes_of}
 use Rattle.maildirsize.specs.Sums.{Pair, sum_of, total_of}
 use Rattle.maildirsize.specs.Written.{written_ledger, written_line, written_definition, IsSmall}
+use Rattle.quota_units.proofs.SumLemmas.{same_totals}
 use Rattle.root_ledgers.specs.declared.book.Book.{Book}
 use Rattle.root_ledgers.specs.declared.book.Standing.TheVariants.{Settled}
 use Rattle.root_ledgers.specs.declared.change.Change.{Change}
@@ -29,9 +30,6 @@ UsageBy (Some Goes) octets usage usage' = (usage.octets ≡ usage'.octets + octe
 
 same_pair : {a b c d : ℤ} → a ≡ c → b ≡ d → (let x : Pair = record { octets = a; count = b } in x) ≡ record { octets = c; count = d }
 same_pair e f = rw (e, f) refl
-
-same_totals : {a b c d : ℕ} → a ≡ c → b ≡ d → (let x : Totals = record { octets = a; count = b } in x) ≡ record { octets = c; count = d }
-same_totals e f = rw (e, f) refl
 
 -- no total is cut
 pub totals_are : (change : Change) (octets : ℕ) (usage usage' : Totals) → UsageBy (Some change) octets usage usage' → usage'.octets < 2 ^ 62 → usage'.count < 2 ^ 62 → totals_by change octets usage ≡ usage'

@@ -2,11 +2,7 @@
 use Rattle.std.proofs.Common.{◌≡◌, ℕ, ◌+◌, ◌<◌, List, length, take, get_or, sum_by, arith, ap, ◌∙◌}
 use Rattle.std.proofs.lemmas.List.{take_more}
 use Rattle.std.proofs.lemmas.List.Sums.{sum_by_push}
-use Rattle.quota_units.specs.declared.totals.Totals.{Totals}
 use Rattle.quota_units.specs.Sums.{cut}
-
-pub same_totals : {a b c d : ℕ} → a ≡ c → b ≡ d → (let x : Totals = record { octets = a; count = b } in x) ≡ record { octets = c; count = d }
-same_totals {b = b} {c = c} e f = ap (λ n. let x : Totals = record { octets = n; count = b } in x) e ∙ ap (λ n. let x : Totals = record { octets = c; count = n } in x) f
 
 -- a cut that is cut again with more
 pub cut_more : (a b : ℕ) → cut (cut a + b) ≡ cut (a + b)

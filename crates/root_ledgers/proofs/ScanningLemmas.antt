@@ -12,9 +12,10 @@ use Rattle.keeper.specs.Calls.{Told, Changes}
 use Rattle.keeper.specs.declared.rows.FileRow.{FileRow}
 use Rattle.keeper.proofs.Changing.{changes_then, changes_weaken}
 use Rattle.quota_units.specs.Sums.{AreSmall, cut, cut_totals}
+use Rattle.quota_units.proofs.SumLemmas.{same_totals}
 use Rattle.root_ledgers.specs.Scans.{scan, sizes_of}
 use Rattle.root_ledgers.specs.Scanning.{AreScans, IsFresh, IsScan, ScansList, counted, empty_scan, scan_at}
-use Rattle.root_ledgers.proofs.ScanLemmas.{same_totals, sum_more}
+use Rattle.root_ledgers.proofs.ScanLemmas.{sum_more}
 
 -- what is known of each item, and of one more behind them
 pub pushed_at : {X : Type 0} (P : ℕ → X → Type 0) (d : X) (xs : List X) (n : ℕ) (x : X) → length xs ≡ n → ((k : ℕ) → k < n → P k (get_or xs k d)) → P n x → (k : ℕ) → k < n + 1 → P k (get_or (xs ++ x ∷ []) k d)

@@ -3,15 +3,14 @@ use Rattle.std.proofs.Common.{◌≡◌, ℕ, ◌<◌, ◌≤◌, ◌+◌, Bool,
 use Rattle.std.proofs.lemmas.List.{get_or_read}
 use Rattle.std.specs.Prelude.{IfSome, is_some}
 use Rattle.std.proofs.lemmas.Bool.{false≢true, and_parts, cases_lt}
-use Rattle.std.proofs.lemmas.Option.{slice_get_past}
-use Rattle.std.specs.Option.{option_map_or}
 use Rattle.quota_units.specs.Limiting.{LimitNumbers}
 use Rattle.quota_units.specs.declared.totals.Totals.{Totals}
 use Rattle.quota_roots.specs.declared.root.RootSpec.{RootSpec}
-use Rattle.quota_roots.specs.Governing.{governs, governs_at}
+use Rattle.quota_roots.specs.Governing.{governs_at}
 use Rattle.keeper.specs.Files.{Files, Row}
 use Rattle.keeper.specs.Calls.{Told, Changes}
 use Rattle.admission.specs.Fitting.{limits_at}
+use Rattle.quota_roots.proofs.GoverningLemmas.{governed_inside}
 use Rattle.root_ledgers.specs.declared.book.Book.{Book}
 use Rattle.root_ledgers.specs.declared.book.Standing.{Standing}
 use Rattle.root_ledgers.specs.declared.book.Standing.TheVariants.{Settled, Doubt}
@@ -64,12 +63,6 @@ module _ (may may1 : ℕ → Bool) (wider : (r : ℕ) → may1 r ≡ true → ma
     settles_then a b c t u v =
         changes_then (OnFiles (Settling may roots limits mailboxes a b)) (OnFiles (Settling may1 roots limits mailboxes b c)) (OnFiles (Settling may roots limits mailboxes a c))
         (λ x y z. settling_then a b c x.files y.files z.files) t u v
-
-pub governed_inside : (roots : List RootSpec) (mailbox : List ℕ) (root : ℕ) → governs_at roots root mailbox ≡ true → root < length roots
-governed_inside roots mailbox root governed = elim (cases_lt root (length roots)) [
-  | inl inside ↦ inside
-  | inr past ↦ absurd (false≢true (sym (ap (λ o. option_map_or (λ spec. governs spec mailbox) o false) (slice_get_past roots root past)) ∙ governed))
-]
 
 pub comes_inside : (roots : List RootSpec) (from : Option (List ℕ)) (to : List ℕ) (root : ℕ) → comes_under roots from to root ≡ true → root < length roots
 comes_inside roots None to root comes = governed_inside roots to root comes
