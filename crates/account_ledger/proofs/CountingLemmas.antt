@@ -14,7 +14,8 @@ use Rattle.account_ledger.specs.Counting.{mailbox_at, sums_of, with_file, delete
 use Rattle.account_ledger.specs.Messages.{message_in, messages_in, StandFor}
 use Rattle.quota_units.specs.Sums.{cut}
 use Rattle.root_ledgers.specs.Scans.{size_of_file, sizes_of}
-use Rattle.root_ledgers.proofs.ScanLemmas.{same_totals, cut_more, sum_more}
+use Rattle.quota_units.proofs.SumLemmas.{same_totals}
+use Rattle.root_ledgers.proofs.ScanLemmas.{cut_more, sum_more}
 use Rattle.root_ledgers.proofs.Sums.{same_sums, sum_map}
 use Rattle.account_ledger.proofs.Weighing.{is_mailbox_of, in_one, rows_weigh, told_by, weigh}
 

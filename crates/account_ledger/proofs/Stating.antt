@@ -33,7 +33,8 @@ use Rattle.account_core.specs.Machine.{governing_rows, usages, over_of}
 use Rattle.account_core.proofs.Admitting.{totals_at-usages}
 use Rattle.account_ledger.specs.Rows.{kept_row, kept_rows, totals_of}
 use Rattle.keeper.proofs.Changing.{changes_weaken}
-use Rattle.root_ledgers.proofs.SettleLemmas.{comes_inside, governed_inside}
+use Rattle.root_ledgers.proofs.SettleLemmas.{comes_inside}
+use Rattle.quota_roots.proofs.GoverningLemmas.{governed_inside}
 use Rattle.account_ledger.proofs.Replying.{no_root, row_at, map_where, governing_rows_are, first_over_where}
 
 pub standing_of : (books : List Book) (root : ℕ) → standing_at (standings_of books) root ≡ (book_at books root).standing

@@ -7,7 +7,8 @@ use Rattle.quota_roots.proofs.GoverningLemmas.{governs_at_get_or}
 use Rattle.keeper.specs.Files.{Row, listed}
 use Rattle.keeper.specs.declared.rows.FileRow.{FileRow}
 use Rattle.account_core.specs.Account.{Account, Message, counted, usage}
-use Rattle.account_core.proofs.Admitting.{totals_at-usages, same_totals}
+use Rattle.quota_units.proofs.SumLemmas.{same_totals}
+use Rattle.account_core.proofs.Admitting.{totals_at-usages}
 use Rattle.account_ledger.specs.Messages.{message_in, messages_of, messages_in, StandFor}
 use Rattle.quota_units.specs.Sums.{cut}
 use Rattle.root_ledgers.specs.Scans.{scan, scanned_octets, scanned_count, size_of_file}
