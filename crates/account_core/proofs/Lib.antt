@@ -8,6 +8,7 @@ pub mod Generations
 pub mod Moving
 pub mod Apart
 pub mod Naming
+pub mod Orderly
 pub mod Worked
 pub mod Forming
 pub mod WholeScans

@@ -12,6 +12,7 @@ pub mod Histories
 pub mod Logs
 pub mod Generations
 pub mod Naming
+pub mod Orderly
 pub mod Worked
 pub mod WorkedLimits
 pub mod WholeScans

@@ -2,6 +2,7 @@ ghost use Rattle.account_core.specs.Generations.{EqualGenerationEqualUsage, Gene
 ghost use Rattle.account_core.specs.Forms.{RepliesHaveForm};
 ghost use Rattle.account_core.specs.Logs.{LogsAreTheCallersOwn, LogsJoin};
 ghost use Rattle.account_core.specs.Naming.{NamesStayApart};
+ghost use Rattle.account_core.specs.Orderly.{AccountsStayOrderly};
 ghost use Rattle.account_core.specs.Worked.{MessagesAreCounted, MovesAreAnswered, ScansAreAnswered};
 ghost use Rattle.account_core.specs.WorkedLimits.{ChecksAreAnswered, DeliveriesAreAnswered, LimitsAreAnswered, RootsAreNamed};
 ghost use Rattle.account_core.specs.WholeScans.{WholeScanIsUsage};
@@ -44,6 +45,15 @@ pub fn equal_generations_have_equal_usages()
 /// A mailbox and a base name one message at most, in any history, where they did when the account was opened.
 pub fn names_stay_apart()
     ensures { NamesStayApart }
+{}
+
+/// Suppose that an account is opened with at most 2^60 octets and 2^20 messages, no delivery or
+/// change is counted yet, a mailbox and a base name one message at most, and no message has the base
+/// of a delivery. After n entries, fewer than 2^63, whose messages have at most 67108864 octets each,
+/// the account has at most 2^60 + 67108864 n octets, 2^20 + n messages, n deliveries and n changes,
+/// and a mailbox and a base still name one message at most.
+pub fn accounts_stay_orderly()
+    ensures { AccountsStayOrderly }
 {}
 
 /// The parts of the mailboxes that a root governs add up to its usage, in any history, where the mailboxes are different and each
