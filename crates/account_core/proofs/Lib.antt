@@ -10,5 +10,6 @@ pub mod Apart
 pub mod Naming
 pub mod Orderly
 pub mod Worked
+pub mod WorkedTouching
 pub mod Forming
 pub mod WholeScans

@@ -11,8 +11,10 @@ pub mod Legality
 pub mod Histories
 pub mod Logs
 pub mod Generations
+pub mod Touching
 pub mod Naming
 pub mod Orderly
 pub mod Worked
 pub mod WorkedLimits
+pub mod WorkedTouching
 pub mod WholeScans

@@ -20,8 +20,8 @@ pub record IsOrderly (entries : ℕ) (account : Account) : Type 0 where
   pub deliveries : account.deliveries ≤ entries
   pub generation : account.generation ≤ entries
 
--- An account that is orderly at the opening stays so after any history whose deliveries have at most
--- 67108864 octets each.
+-- An account that is orderly at the opening stays so after any history of fewer than 2 ^ 63 entries
+-- whose messages have at most 67108864 octets each.
 abbrev pub AccountsStayOrderly : Type 0
 AccountsStayOrderly =
     (roots : List RootSpec) (opening : Account) (history : List Entry)

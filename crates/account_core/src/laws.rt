@@ -5,6 +5,7 @@ ghost use Rattle.account_core.specs.Naming.{NamesStayApart};
 ghost use Rattle.account_core.specs.Orderly.{AccountsStayOrderly};
 ghost use Rattle.account_core.specs.Worked.{MessagesAreCounted, MovesAreAnswered, ScansAreAnswered};
 ghost use Rattle.account_core.specs.WorkedLimits.{ChecksAreAnswered, DeliveriesAreAnswered, LimitsAreAnswered, RootsAreNamed};
+ghost use Rattle.account_core.specs.WorkedTouching.{EntriesTouchSo};
 ghost use Rattle.account_core.specs.WholeScans.{WholeScanIsUsage};
 ghost use Rattle.account_core.specs.Legality.{MoveOverWhereNoFit, NoneBroken, NoneBrokenByMoves, OverWhereNoFit};
 
@@ -88,4 +89,12 @@ pub fn worked_accounts_are_answered_so()
     ensures checks { ChecksAreAnswered }
     ensures roots { RootsAreNamed }
     ensures limits { LimitsAreAnswered }
+{}
+
+/// Worked entries and the quota objects that they touch (RFC 9425, section 4). A delivery, a removal
+/// and a move touch the objects whose used number they change, and a change of limits touches those
+/// whose limit it sets, changes or removes. A delivery to Trash, a mark, a question and an entry with
+/// fault touch none. The version counts the entries that touched some object.
+pub fn worked_entries_touch_objects_so()
+    ensures { EntriesTouchSo }
 {}

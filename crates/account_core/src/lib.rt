@@ -17,6 +17,7 @@ pub use laws::{
     no_accepted_message_breaks_a_limit, no_moved_message_breaks_a_limit,
     over_exactly_where_a_message_does_not_fit, replies_have_their_form,
     the_generation_counts_the_changes, whole_scans_are_usages, worked_accounts_are_answered_so,
+    worked_entries_touch_objects_so,
 };
 pub use rows::RootRows;
 pub use scans::{RootSets, TotalsList};
