@@ -17,7 +17,7 @@ one_message = record two_limits { messages = plain_message (codes "INBOX") (code
 abbrev pub five_entries : List Entry
 five_entries =
     made (delivery (codes "INBOX") 7) ∷ made (delivery (codes "Trash") 8) ∷ marked (codes "S")
-    ∷ made (change [] None None) ∷ made (change [] (Some 1024) None) ∷ []
+    ∷ made (change [] None None) ∷ made (change [] (Some 2048) None) ∷ []
 
 -- A delivery, a removal and a move touch each object whose used number they change. A change of
 -- limits touches each object whose limit it sets, changes or removes. A delivery to Trash, a mark,
