@@ -1,3 +1,4 @@
 pub mod Texts
 pub mod RowLemmas
 pub mod NameLemmas
+pub mod LineLemmas

@@ -1,3 +1,4 @@
+pub mod Ledgers
 pub mod Names
 pub mod Paths
 pub mod Real

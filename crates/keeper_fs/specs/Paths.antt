@@ -16,6 +16,7 @@ mailbox_folder account mailbox = if bytes_eq mailbox (codes "INBOX") then accoun
 
 -- the folders of a mailbox whose folder this is (Maildir)
 pub record IsMailbox (folder : List ℕ) (mailbox : Mailbox) : Type 0 where
+  pub own : string_bytes mailbox.folder ≡ folder
   pub tmp : string_bytes mailbox.tmp ≡ path_in folder (codes "tmp")
   pub new : string_bytes mailbox.new ≡ path_in folder (codes "new")
   pub cur : string_bytes mailbox.cur ≡ path_in folder (codes "cur")

@@ -1,14 +1,24 @@
-ghost use Rattle.std.specs.Prelude.{◌≡◌, IfOk};
+ghost use Rattle.std.specs.Prelude.{◌≡◌, codes, IfOk};
 ghost use Rattle.std.specs.String.{string_bytes};
+ghost use Rattle.std.specs.Str.Iter.{HasSubslice};
 ghost use Rattle.keeper_fs.specs.Paths.{IsMailbox, mailbox_folder, path_in};
 
+use crate::names::has_flags;
+use crate::writing::sync_folder;
 use std::alloc::{AllocError, Global};
-use std::fs::Files;
-use std::{fs, io};
+use std::fs::{DirBuilder, Files};
+use std::io;
+use std::io::ErrorKind;
+use std::os::unix::fs::DirBuilderExt;
 
-/// The three folders of a mailbox (Maildir): a file is written in `tmp`, and is a message once it stands in `new` or `cur`.
+/// The permissions of a new folder: its owner does all.
+const FOLDER_MODE: u32 = 0o700;
+
+/// The folder of a mailbox and the three in it (Maildir): a file is written in `tmp`, and is a message once it stands in `new`
+/// or `cur`.
 #[derive(Drop)]
 pub(crate) struct Mailbox {
+    pub(crate) folder: String,
     pub(crate) tmp: String,
     pub(crate) new: String,
     pub(crate) cur: String,
@@ -32,18 +42,60 @@ impl Mailbox {
         ensures { IfOk result (IsMailbox folder.now) }
     {
         Ok(Mailbox {
+            folder: String::from_str(alloc, folder)?,
             tmp: path_in(alloc, folder, "tmp")?,
             new: path_in(alloc, folder, "new")?,
             cur: path_in(alloc, folder, "cur")?,
         })
     }
 
-    /// Makes what is missing of the folders.
-    pub(crate) fn make<R: Files>(&self, rt: &R) -> io::Result<()> {
-        for path in [&self.tmp, &self.new, &self.cur] {
-            fs::create_dir_all(rt, path.as_str())?;
+    /// The folder in which a file of this name is put: `cur` if the name has flags, and else `new`.
+    pub(crate) fn home(&self, name: &str) -> &str
+        ensures cur { HasSubslice name.now (codes ":2,") → result.now ≡ string_bytes self.now.cur }
+        ensures new { ¬ HasSubslice name.now (codes ":2,") → result.now ≡ string_bytes self.now.new }
+    {
+        if has_flags(name) {
+            self.cur.as_str()
+        } else {
+            self.new.as_str()
+        }
+    }
+
+    /// Makes what is missing of the folders, and of the folder of the account to which the mailbox belongs.
+    pub(crate) fn make<R: Files>(&self, rt: &R, account: &str) -> io::Result<()> {
+        make_folder(rt, account)?;
+        for path in [&self.folder, &self.tmp, &self.new, &self.cur] {
+            make_folder(rt, path.as_str())?;
         }
         Ok(())
+    }
+}
+
+/// Makes a folder if its name is free, and hands its name to the disk.
+fn make_folder<R: Files>(rt: &R, path: &str) -> io::Result<()> {
+    match create_folder(rt, path, false) {
+        Ok(()) => sync_folder(rt, parent_of(path)),
+        Err(error) if error.kind() == ErrorKind::AlreadyExists => Ok(()),
+        Err(error) if error.kind() == ErrorKind::NotFound => {
+            create_folder(rt, path, true)?;
+            sync_folder(rt, parent_of(path))
+        }
+        Err(error) => Err(error),
+    }
+}
+
+/// Makes a folder, with those above it if `above` says so.
+fn create_folder<R: Files>(rt: &R, path: &str, above: bool) -> io::Result<()> {
+    let mut builder = DirBuilder::new();
+    builder.recursive(above).mode(FOLDER_MODE);
+    builder.create(rt, path)
+}
+
+/// The folder in which a path's last name stands.
+fn parent_of(path: &str) -> &str {
+    match path.rsplit_once('/') {
+        Some((parent, _)) => parent,
+        None => ".",
     }
 }
 

@@ -1,4 +1,4 @@
-ghost use Rattle.std.specs.Prelude.{◌≡◌, ◌≤◌, ◌<◌, ◌&&◌, None, false, Option, length, IsErr, IsErrOf, IfOk, All};
+ghost use Rattle.std.specs.Prelude.{◌≡◌, ◌≤◌, ◌<◌, ◌&&◌, None, false, Option, length, IsErr, IsErrOf, IfOk, IfSome, All};
 ghost use Rattle.std.specs.String.{string_bytes};
 ghost use Rattle.quota_units.specs.Causes.{HasCause, next_count};
 ghost use Rattle.keeper_fs.specs.Names.{is_file_name};
@@ -14,9 +14,11 @@ use std::fs::Files;
 /// Keeps an account in a folder of its own, a Maildir++ tree. What the folder holds is not told.
 ///
 /// A message of INBOX is a file in `new` or `cur` of the folder, and one of another mailbox in `new` or `cur` of the folder's
-/// folder `.<mailbox>`. The ledger of root 0 is the file `maildirsize`, and that of root k `maildirsize.<k>`. Each `Err` of the
-/// system is a fault, and so is want of memory where a call has no answer for it, a file that is to be renamed or removed and is
-/// not there, a name that is taken, and a line for which a ledger has no room.
+/// folder `.<mailbox>`. A message that was put outlives a crash. The ledger of root 0 is the file `maildirsize`, and that of root k
+/// `maildirsize.<k>`, if it is a regular file. New files have the permissions 0600 and new folders 0700.
+///
+/// Each `Err` of the system is a fault, and so is want of memory where a call has no answer for it, a file that is to be renamed or
+/// removed and is not there, a name that is taken, and a line for a ledger that is not there or has no room for it.
 #[derive(Drop)]
 pub struct FsKeeper<R> {
     rt: R,
@@ -168,6 +170,8 @@ impl<R: Files + AllocGlobal + Clone + Drop> Keeper for FsKeeper<R> {
 
     fn read_ledger(&mut self, alloc: Global, root: u32) -> Result<Option<Vec<u8>>, KeepError>
         requires { root < 4 }
+        // A ledger is read to a bound, whatever its file is.
+        ensures bound { IfOk result (λ found. IfSome found (λ text. length text.items ≤ 5120)) }
         ensures cause { HasCause (IsErrOf result KeepError.Failed) (faults_of self.old) (faults_of self.new) }
         ensures appends { append_faults_of self.new ≡ append_faults_of self.old }
         ensures listings { lists_of self.new ≡ lists_of self.old }

@@ -1,15 +1,17 @@
-ghost use Rattle.std.specs.Prelude.{◌≡◌, ◌≤◌, length, IfOk, IsErr};
+ghost use Rattle.std.specs.Prelude.{◌≡◌, ◌<◌, ◌≤◌, length, take, IfOk, IfSome, IsErr};
 ghost use Rattle.std.specs.String.{string_bytes};
+ghost use Rattle.keeper_fs.specs.Ledgers.{AreWholeLines};
 ghost use Rattle.keeper_fs.specs.Paths.{ledger_name, path_in};
 
 use crate::errors::{cause, fault};
 use crate::folders::{Mailbox, path_in};
-use crate::writing::place;
+use crate::writing::replace_file;
 use keeper::KeepError;
+use memchr::memrchr;
 use std::alloc::{AllocError, Global};
-use std::fs;
 use std::fs::{Files, OpenFile, OpenOptions};
-use std::io::{ErrorKind, Write};
+use std::io::{ErrorKind, Read, Write};
+use std::{fs, io};
 
 /// The octets that a ledger stays below.
 const LEDGER_ROOM: u64 = 5120;
@@ -33,23 +35,82 @@ fn ledger_path(alloc: Global, account: &str, root: u32) -> Result<String, AllocE
     path_in(alloc, account, name.as_str())
 }
 
-/// The bytes of a root's ledger, or `None` where there is no such file.
-pub(crate) fn read<R: Files + AllocGlobal>(
+/// The bytes of a root's ledger, or `None` if there is no regular file of its name. Of a file of 5120 octets or more these are
+/// the whole lines among its first 5120.
+pub(crate) fn read<R: Files>(
     rt: &R,
     alloc: Global,
     account: &str,
     root: u32,
-) -> Result<Option<Vec<u8>>, KeepError> {
+) -> Result<Option<Vec<u8>>, KeepError>
+    ensures { IfOk result (λ found. IfSome found (λ text. length text.items ≤ 5120)) }
+{
     let path = ledger_path(alloc, account, root)?;
-    match fs::read(rt, path.as_str()) {
-        Ok(bytes) => Ok(Some(bytes)),
-        Err(error) if error.kind() == ErrorKind::NotFound => Ok(None),
-        Err(error) => Err(cause(error)),
+    let Some(file) = open_ledger(rt, path.as_str()).map_err(cause)? else {
+        return Ok(None);
+    };
+    let mut text = Vec::new(alloc);
+    file.take(LEDGER_ROOM)
+        .read_to_end(&mut text)
+        .map_err(cause)?;
+    keep_whole_lines(&mut text);
+    Ok(Some(text))
+}
+
+/// Opens a ledger, or gives `None` if there is no regular file of this path. What is no regular file is not opened.
+fn open_ledger<R: Files>(rt: &R, path: &str) -> io::Result<Option<R::File>> {
+    match open_regular(rt, path) {
+        Err(error) if is_no_file(error.kind()) => Ok(None),
+        opened => opened,
     }
 }
 
-/// Writes a line behind the bytes of a root's ledger, which is made where it is not there. It fails, and leaves the bytes, where
-/// the ledger would not stay below its room.
+/// Whether an error of this kind says that a path leads to no file: it isn't there, or its links go round.
+fn is_no_file(kind: ErrorKind) -> bool {
+    kind == ErrorKind::NotFound || kind == ErrorKind::FilesystemLoop
+}
+
+fn open_regular<R: Files>(rt: &R, path: &str) -> io::Result<Option<R::File>> {
+    if !fs::metadata(rt, path)?.is_file() {
+        return Ok(None);
+    }
+    let file = fs::open(rt, path)?;
+    // Another file may have taken the name since.
+    if file.metadata()?.is_file() {
+        Ok(Some(file))
+    } else {
+        Ok(None)
+    }
+}
+
+/// Leaves a text of fewer than 5120 octets, and cuts a longer one to the whole lines among its first 5120.
+fn keep_whole_lines(text: &mut Vec<u8>)
+    ensures short { length text.old.items < 5120 → text.new.items ≡ text.old.items }
+    ensures long { 5120 ≤ length text.old.items → AreWholeLines (take 5120 text.old.items) text.new.items }
+    ensures bound { length text.new.items ≤ 5120 }
+{
+    if (text.len() as u64) < LEDGER_ROOM {
+        return;
+    }
+    text.truncate(LEDGER_ROOM as usize);
+    let end = end_of_lines(text.as_slice());
+    text.truncate(end);
+}
+
+/// Where the last whole line of a text ends, or 0 if there is none.
+#[tactic(auto, using(crate::proofs::LineLemmas::up_to_last))]
+fn end_of_lines(text: &[u8]) -> usize
+    ensures lines { AreWholeLines text.now (take result text.now) }
+    ensures bound { result ≤ length text.now }
+{
+    match memrchr(b'\n', text) {
+        Some(at) => at + 1,
+        None => 0,
+    }
+}
+
+/// Writes a line behind the bytes of a root's ledger. It fails, and leaves what is there, if there is no regular file of its name,
+/// or the ledger would not stay below its room.
 pub(crate) fn append<R: Files>(
     rt: &R,
     alloc: Global,
@@ -60,17 +121,21 @@ pub(crate) fn append<R: Files>(
     ensures { 5120 ≤ length line.now → IsErr result }
 {
     let path = ledger_path(alloc, account, root)?;
+    if !fs::metadata(rt, path.as_str()).map_err(fault)?.is_file() {
+        return Err(KeepError::Failed);
+    }
     let mut options = OpenOptions::new();
-    options.append(true).create(true);
+    options.append(true);
     let mut file = options.open(rt, path.as_str()).map_err(fault)?;
-    let length = file.metadata().map_err(fault)?.len();
-    if length.saturating_add(line.len() as u64) >= LEDGER_ROOM {
+    let metadata = file.metadata().map_err(fault)?;
+    if !metadata.is_file() || metadata.len().saturating_add(line.len() as u64) >= LEDGER_ROOM {
         return Err(KeepError::Failed);
     }
     file.write_all(line).map_err(fault)
 }
 
-/// Puts a text in place of a root's ledger, and makes what is missing of the account's folders.
+/// Puts a text in place of a root's ledger. If a folder is not there, it makes what is missing of the account's and tries once
+/// more.
 pub(crate) fn install<R: Files>(
     rt: &R,
     alloc: Global,
@@ -82,6 +147,11 @@ pub(crate) fn install<R: Files>(
     let inbox = Mailbox::within(alloc, account)?;
     let name = ledger_name(alloc, root)?;
     let draft = path_in(alloc, inbox.tmp.as_str(), name.as_str())?;
-    inbox.make(rt).map_err(fault)?;
-    place(rt, draft.as_str(), path.as_str(), text).map_err(fault)
+    match replace_file(rt, draft.as_str(), path.as_str(), text) {
+        Err(error) if error.kind() == ErrorKind::NotFound => {
+            inbox.make(rt, account).map_err(fault)?;
+            replace_file(rt, draft.as_str(), path.as_str(), text).map_err(fault)
+        }
+        replaced => replaced.map_err(fault),
+    }
 }

@@ -1,4 +1,4 @@
-ghost use Rattle.std.specs.Prelude.{◌≡◌, ◌&&◌, ◌↔◌, codes, true, false, IfOk};
+ghost use Rattle.std.specs.Prelude.{◌≡◌, ◌&&◌, codes, false, IfOk};
 ghost use Rattle.std.specs.String.{string_bytes};
 ghost use Rattle.std.specs.Str.Iter.{HasSubslice};
 ghost use Rattle.keeper_fs.specs.Names.{is_file_name};
@@ -7,7 +7,7 @@ ghost use Rattle.keeper_fs.specs.Paths.{path_in};
 use crate::errors::fault;
 use crate::folders::{Mailbox, path_in};
 use crate::names::file_name;
-use crate::writing::place;
+use crate::writing::add_file;
 use keeper::KeepError;
 use std::alloc::{AllocError, Global};
 use std::fs::Files;
@@ -32,34 +32,14 @@ impl Places {
         })
     }
 
-    /// Where a file of this name is put: in `cur` if the name has flags, and else in `new`.
-    fn home(&self, name: &str) -> &str
-        ensures cur { HasSubslice name.now (codes ":2,") → result.now ≡ string_bytes self.now.cur }
-        ensures new { ¬ HasSubslice name.now (codes ":2,") → result.now ≡ string_bytes self.now.new }
-    {
-        if has_flags(name) {
-            self.cur.as_str()
-        } else {
-            self.new.as_str()
-        }
-    }
-
-    /// Fails where a file stands in one of the places.
+    /// Fails if a file stands in one of the places.
     fn require_free<R: Files>(&self, rt: &R) -> io::Result<()> {
         require_none(rt, self.new.as_str())?;
         require_none(rt, self.cur.as_str())
     }
 }
 
-/// Whether a name has flags behind `:2,`, be they none.
-#[tactic(auto, using(std::proofs::lemmas::Str::Pattern::contains_text))]
-fn has_flags(name: &str) -> bool
-    ensures { (result ≡ true) ↔ HasSubslice name.now (codes ":2,") }
-{
-    name.contains(":2,")
-}
-
-/// Fails where a file has this path.
+/// Fails if a file has this path.
 fn require_none<R: Files>(rt: &R, path: &str) -> io::Result<()> {
     match fs::symlink_metadata(rt, path) {
         Ok(_) => Err(io::Error::from(ErrorKind::AlreadyExists)),
@@ -68,7 +48,26 @@ fn require_none<R: Files>(rt: &R, path: &str) -> io::Result<()> {
     }
 }
 
-/// Adds a message file to a mailbox, and makes what is missing of its folders.
+/// A message file that is to be added or renamed: where its name may not stand yet, and where it is to stand.
+#[derive(Drop)]
+struct Arrival {
+    taken: Places,
+    target: String,
+}
+
+impl Arrival {
+    fn of(alloc: Global, mailbox: &Mailbox, name: &str) -> Result<Arrival, AllocError>
+        ensures new { ¬ HasSubslice name.now (codes ":2,") → IfOk result (λ arrival. string_bytes arrival.target ≡ path_in (string_bytes mailbox.now.new) name.now) }
+        ensures cur { HasSubslice name.now (codes ":2,") → IfOk result (λ arrival. string_bytes arrival.target ≡ path_in (string_bytes mailbox.now.cur) name.now) }
+    {
+        Ok(Arrival {
+            taken: Places::of(alloc, mailbox, name)?,
+            target: path_in(alloc, mailbox.home(name), name)?,
+        })
+    }
+}
+
+/// Adds a message file to a mailbox. If a folder is not there, it makes what is missing and tries once more.
 pub(crate) fn put<R: Files>(
     rt: &R,
     alloc: Global,
@@ -83,13 +82,30 @@ pub(crate) fn put<R: Files>(
     let name = file_name(name)?;
     let folders = Mailbox::of(alloc, account, mailbox)?;
     let draft = path_in(alloc, folders.tmp.as_str(), name)?;
-    let places = Places::of(alloc, &folders, name)?;
-    folders.make(rt).map_err(fault)?;
-    places.require_free(rt).map_err(fault)?;
-    place(rt, draft.as_str(), places.home(name), octets).map_err(fault)
+    let arrival = Arrival::of(alloc, &folders, name)?;
+    let home = folders.home(name);
+    match add(rt, draft.as_str(), home, &arrival, octets) {
+        Err(error) if error.kind() == ErrorKind::NotFound => {
+            folders.make(rt, account).map_err(fault)?;
+            add(rt, draft.as_str(), home, &arrival, octets).map_err(fault)
+        }
+        added => added.map_err(fault),
+    }
 }
 
-/// Gives a message file another mailbox and name, and makes what is missing of that mailbox's folders.
+fn add<R: Files>(
+    rt: &R,
+    draft: &str,
+    home: &str,
+    arrival: &Arrival,
+    octets: &[u8],
+) -> io::Result<()> {
+    arrival.taken.require_free(rt)?;
+    add_file(rt, draft, home, arrival.target.as_str(), octets)
+}
+
+/// Gives a message file another mailbox and name. If the file or a folder is not there, it makes what is missing of that
+/// mailbox's folders and tries once more.
 pub(crate) fn rename<R: Files>(
     rt: &R,
     alloc: Global,
@@ -107,17 +123,23 @@ pub(crate) fn rename<R: Files>(
     let new_name = file_name(new_name)?;
     let old = Places::of(alloc, &Mailbox::of(alloc, account, from)?, name)?;
     let folders = Mailbox::of(alloc, account, to)?;
-    let new = Places::of(alloc, &folders, new_name)?;
-    folders.make(rt).map_err(fault)?;
-    new.require_free(rt).map_err(fault)?;
-    move_file(rt, &old, new.home(new_name)).map_err(fault)
+    let arrival = Arrival::of(alloc, &folders, new_name)?;
+    match move_file(rt, &old, &arrival) {
+        Err(error) if error.kind() == ErrorKind::NotFound => {
+            folders.make(rt, account).map_err(fault)?;
+            move_file(rt, &old, &arrival).map_err(fault)
+        }
+        moved => moved.map_err(fault),
+    }
 }
 
-/// Renames the file that stands in one of the places.
-fn move_file<R: Files>(rt: &R, places: &Places, target: &str) -> io::Result<()> {
-    match fs::rename(rt, places.new.as_str(), target) {
+/// Renames the file that stands in one of the places, unless its new name is taken.
+fn move_file<R: Files>(rt: &R, old: &Places, arrival: &Arrival) -> io::Result<()> {
+    arrival.taken.require_free(rt)?;
+    let target = arrival.target.as_str();
+    match fs::rename(rt, old.new.as_str(), target) {
         Err(error) if error.kind() == ErrorKind::NotFound => {
-            fs::rename(rt, places.cur.as_str(), target)
+            fs::rename(rt, old.cur.as_str(), target)
         }
         renamed => renamed,
     }

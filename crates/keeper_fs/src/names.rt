@@ -1,5 +1,6 @@
-ghost use Rattle.std.specs.Prelude.{◌≡◌, IfOk, IfErr, true, false};
+ghost use Rattle.std.specs.Prelude.{◌≡◌, ◌↔◌, codes, IfOk, IfErr, true, false};
 ghost use Rattle.std.specs.List.{list_any};
+ghost use Rattle.std.specs.Str.Iter.{HasSubslice};
 ghost use Rattle.keeper_fs.specs.Names.{is_separator, is_plain, is_file_name};
 
 use memchr::memchr2;
@@ -37,4 +38,12 @@ fn has_separator(name: &[u8]) -> bool
         Some(_) => true,
         None => false,
     }
+}
+
+/// Whether a name has flags behind `:2,`, be they none.
+#[tactic(auto, using(std::proofs::lemmas::Str::Pattern::contains_text))]
+pub(crate) fn has_flags(name: &str) -> bool
+    ensures { (result ≡ true) ↔ HasSubslice name.now (codes ":2,") }
+{
+    name.contains(":2,")
 }

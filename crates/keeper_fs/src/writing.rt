@@ -1,31 +1,88 @@
-use std::fs::{File, Files, OpenFile};
+use std::fs::{File, Files, OpenFile, OpenOptions};
 use std::io::{ErrorKind, Write};
+use std::os::unix::fs::OpenOptionsExt;
 use std::{fs, io};
 
-/// Puts a file with these bytes at `target`, which they reach as a whole: they are written at `draft`, handed to the disk, and
-/// renamed. After an error the draft is removed, if that can be done.
-pub(crate) fn place<R: Files>(rt: &R, draft: &str, target: &str, bytes: &[u8]) -> io::Result<()> {
-    let placed = write_and_rename(rt, draft, target, bytes);
-    if placed.is_err() {
+/// The permissions of a new file: its owner reads and writes it.
+const FILE_MODE: u32 = 0o600;
+
+/// Adds a file with these bytes at `target` in `folder`, where no file may stand. The bytes are written at `draft` and handed to
+/// the disk, `draft` is linked to `target`, and the folder with its new name is handed to the disk. After an error no new name
+/// is left. The draft is removed in each case, if that can be done.
+pub(crate) fn add_file<R: Files>(
+    rt: &R,
+    draft: &str,
+    folder: &str,
+    target: &str,
+    bytes: &[u8],
+) -> io::Result<()> {
+    let added = write_and_link(rt, draft, folder, target, bytes);
+    let _ = fs::remove_file(rt, draft);
+    added
+}
+
+fn write_and_link<R: Files>(
+    rt: &R,
+    draft: &str,
+    folder: &str,
+    target: &str,
+    bytes: &[u8],
+) -> io::Result<()> {
+    write_draft(rt, draft, bytes)?;
+    fs::hard_link(rt, draft, target)?;
+    let synced = sync_folder(rt, folder);
+    if synced.is_err() {
+        let _ = fs::remove_file(rt, target);
+    }
+    synced
+}
+
+/// Puts a file with these bytes at `target`, in place of one that stands there. They reach it as a whole: they are written at
+/// `draft`, handed to the disk, and renamed. After an error the draft is removed, if that can be done.
+pub(crate) fn replace_file<R: Files>(
+    rt: &R,
+    draft: &str,
+    target: &str,
+    bytes: &[u8],
+) -> io::Result<()> {
+    let replaced = write_and_rename(rt, draft, target, bytes);
+    if replaced.is_err() {
         let _ = fs::remove_file(rt, draft);
     }
-    placed
+    replaced
 }
 
 fn write_and_rename<R: Files>(rt: &R, draft: &str, target: &str, bytes: &[u8]) -> io::Result<()> {
+    write_draft(rt, draft, bytes)?;
+    fs::rename(rt, draft, target)
+}
+
+/// Writes a new file and hands it to the disk.
+fn write_draft<R: Files>(rt: &R, draft: &str, bytes: &[u8]) -> io::Result<()> {
     let mut file = new_file(rt, draft)?;
     file.write_all(bytes)?;
-    file.sync_all()?;
-    fs::rename(rt, draft, target)
+    file.sync_all()
 }
 
 /// A new file, in place of one that an earlier run left.
 fn new_file<R: Files>(rt: &R, path: &str) -> io::Result<R::File> {
-    match File::create_new(rt, path) {
+    match create_new(rt, path) {
         Err(error) if error.kind() == ErrorKind::AlreadyExists => {
             fs::remove_file(rt, path)?;
-            File::create_new(rt, path)
+            create_new(rt, path)
         }
         opened => opened,
     }
+}
+
+fn create_new<R: Files>(rt: &R, path: &str) -> io::Result<R::File> {
+    let mut options = OpenOptions::new();
+    options.write(true).create_new(true).mode(FILE_MODE);
+    options.open(rt, path)
+}
+
+/// Hands the names of a folder to the disk.
+pub(crate) fn sync_folder<R: Files>(rt: &R, folder: &str) -> io::Result<()> {
+    let folder = File::open(rt, folder)?;
+    folder.sync_all()
 }

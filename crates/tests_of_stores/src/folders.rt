@@ -6,8 +6,11 @@ use quota_units::Failed;
 use std::alloc::{Allocator, Global};
 use std::fs::{File, Files, Metadata, OpenOptions};
 use std::io::ErrorKind;
+use std::os::unix::fs::{PermissionsExt, symlink};
+use std::os::unix::io::AsRawFd;
 use std::process::Abort;
 use std::test::Fail;
+use std::time::{Clock, Duration};
 use std::{fs, io};
 
 // Steps in a tree `mail`, one a line: a call of the keeper of the account `ann`, or a look at the files, as another program has
@@ -28,29 +31,36 @@ rename INBOX 1.mx,S=3 INBOX 1.mx,S=3:2,S
 file ann/cur/1.mx,S=3:2,S => one
 rename INBOX 1.mx,S=3:2,S Sent.2026 1.mx,S=3:2,S
 file ann/.Sent.2026/cur/1.mx,S=3:2,S => one
+mode ann => 700
+mode ann/.Sent.2026 => 700
+mode ann/.Sent.2026/tmp => 700
+mode ann/.Sent.2026/cur/1.mx,S=3:2,S => 600
 list INBOX => 2.mx:2,S 4;
 list Sent.2026 => 1.mx,S=3:2,S 3;
 remove INBOX 2.mx:2,S
 list INBOX => 
 faults => 0 0";
 
-/// Ledgers are replaced whole and appended to.
-const LEDGERS: &str = "install 0 0S;10_1;
+/// Ledgers are replaced whole and appended to. An append makes no ledger.
+const LEDGERS: &str = "append 0 7_1; => failed
+there ann => false
+install 0 0S;10_1;
 append 0 -10_-1;
 install 3 5C;
-append 1 7_1;
+append 1 7_1; => failed
+there ann/maildirsize.1 => false
 file ann/maildirsize => 0S;10_1;-10_-1;
-file ann/maildirsize.1 => 7_1;
 file ann/maildirsize.3 => 5C;
+mode ann/maildirsize => 600
 read 0 => 0S;10_1;-10_-1;
-read 1 => 7_1;
+read 1 => none
 read 2 => none
 install 0 0S;
 file ann/maildirsize => 0S;
 count ann/tmp => 0
-faults => 0 0";
+faults => 0 2";
 
-/// A ledger stays below 5120 octets, of which FULL are 5112; another program writes more.
+/// A ledger stays below 5120 octets, of which FULL are 5112; another program writes more, of which whole lines are read.
 const ROOM: &str = "install 0 FULL
 append 0 1234_1;
 append 0 ; => failed
@@ -60,9 +70,58 @@ write ann/maildirsize FULL1234_1;FULL1234_1;
 append 0 1_1; => failed
 faults => 0 2
 file ann/maildirsize => FULL1234_1;FULL1234_1;
+read 0 => FULL1234_1;
+write ann/maildirsize FULL123456_1
+read 0 => 
+write ann/maildirsize FULL12345_1
+read 0 => FULL12345_1
+write ann/maildirsize 5C;FULLFULLFULLFULL
+read 0 => 5C;
 install 0 0S;
 append 0 1_1;
 file ann/maildirsize => 0S;1_1;";
+
+/// A ledger that is no regular file is none, and no line is written to it. A link to a file is that file.
+const SPECIAL: &str = "folder ann/maildirsize.1
+link ann/maildirsize /dev/zero
+link ann/maildirsize.2 nowhere
+link ann/maildirsize.3 maildirsize.3
+read 0 => none
+read 1 => none
+read 2 => none
+read 3 => none
+append 0 1_1; => failed
+append 1 1_1; => failed
+append 2 1_1; => failed
+append 3 1_1; => failed
+there ann/nowhere => false
+faults => 0 4
+install 0 5C;
+install 2 6C;
+install 3 7C;
+file ann/maildirsize => 5C;
+there ann/nowhere => false
+append 0 1_1;
+read 0 => 5C;1_1;
+write ann/elsewhere 8C;
+link ann/other elsewhere
+move ann/other ann/maildirsize.2
+read 2 => 8C;
+append 2 1_1;
+file ann/elsewhere => 8C;1_1;
+faults => 0 4";
+
+/// Links to folders are followed.
+const LINKED: &str = "folder mails/sent
+folder ann
+link ann/.Sent ../mails/sent
+link ann/new ../mails
+put Sent 1.mx one
+put INBOX 2.mx two
+file mails/sent/new/1.mx => one
+file mails/2.mx => two
+list Sent => 1.mx 3;
+faults => 0 0";
 
 /// A tree of other programs is read. A file of `cur` without flags is found there.
 const OTHERS: &str = "folder ann/new
@@ -117,11 +176,11 @@ write ann/.Lists
 list Lists => failed
 put Lists 1.mx x => failed
 folder ann/maildirsize
-read 0 => failed
+read 0 => none
 install 0 0S; => failed
-faults => 10 0
+faults => 9 0
 append 0 1_1; => failed
-faults => 10 1
+faults => 9 1
 count ann/tmp => 0";
 
 /// A draft that an earlier run left is replaced.
@@ -142,7 +201,7 @@ remove INBOX 1.mx => failed
 install 0 0S; => failed";
 
 /// The keeper of the account `ann` below `mail`, which is made anew.
-fn ann(rt: HostRuntime) -> Result<FsKeeper<HostRuntime>, Fail> {
+pub(crate) fn ann(rt: HostRuntime) -> Result<FsKeeper<HostRuntime>, Fail> {
     let alloc = rt.alloc();
     let _ = fs::remove_dir_all(&rt, "mail");
     fs::create_dir(&rt, "mail")?;
@@ -218,6 +277,7 @@ fn make(
     let path = format!(in rt.alloc(); "mail/{path}")?;
     match verb {
         "folder" => fs::create_dir_all(rt, path.as_str())?,
+        "link" => symlink(rt, other, path.as_str())?,
         "move" => fs::rename(
             rt,
             path.as_str(),
@@ -239,6 +299,10 @@ fn look(
     match verb {
         "file" => word_of(alloc, fs::read_to_string(rt, path.as_str())?.as_bytes()),
         "count" => Ok(format!(in alloc; "{}", fs::read_dir(rt, path.as_str())?.count())?),
+        "mode" => {
+            let permissions = fs::metadata(rt, path.as_str())?.permissions();
+            Ok(format!(in alloc; "{:o}", permissions.mode() & 0o777)?)
+        }
         _ => Ok(format!(in alloc; "{}", fs::exists(rt, path.as_str())?)?),
     }
 }
@@ -316,7 +380,7 @@ fn answer<R: Files + AllocGlobal + Clone + Drop>(
 ) -> Result<String, Fail> {
     let alloc = rt.alloc();
     let plain = match words[0] {
-        "file" | "count" | "there" => return look(rt, words[0], words[1]),
+        "file" | "count" | "mode" | "there" => return look(rt, words[0], words[1]),
         "list" | "first" => return list(alloc, keeper, words[0], words[1]),
         "read" => return read_ledger(alloc, keeper, words[1].parse::<u32>()? % 4),
         "install" | "append" => {
@@ -328,7 +392,7 @@ fn answer<R: Files + AllocGlobal + Clone + Drop>(
                 text.as_bytes(),
             )
         }
-        "folder" | "move" | "write" => make(rt, words)?,
+        "folder" | "link" | "move" | "write" => make(rt, words)?,
         "faults" => {
             let faults = keeper.faults();
             let appends = keeper.append_faults();
@@ -340,7 +404,7 @@ fn answer<R: Files + AllocGlobal + Clone + Drop>(
 }
 
 /// Does steps and checks their answers.
-fn check_steps<R: Files + AllocGlobal + Clone + Drop>(
+pub(crate) fn check_steps<R: Files + AllocGlobal + Clone + Drop>(
     rt: &(impl Abort + Files + AllocGlobal + Clone + Drop),
     keeper: &mut FsKeeper<R>,
     steps: &str,
@@ -356,12 +420,33 @@ fn check_steps<R: Files + AllocGlobal + Clone + Drop>(
 #[test]
 fn trees_are_written_and_read_as_the_steps_say(rt: HostRuntime) -> Result<(), Fail> {
     let full = "x".repeat(rt.alloc(), 5112)?;
-    for steps in [STORE, LEDGERS, ROOM, OTHERS, ORDER, TAKEN, DRAFT] {
+    for steps in [
+        STORE, LEDGERS, ROOM, SPECIAL, LINKED, OTHERS, ORDER, TAKEN, DRAFT,
+    ] {
         let mut keeper = handed_over(ann(rt)?);
         let steps = steps.replace(rt.alloc(), "FULL", full.as_str())?;
         check_steps(&rt, &mut keeper, steps.as_str())?;
         fs::remove_dir_all(&rt, "mail")?;
     }
+    Ok(())
+}
+
+#[test]
+fn a_pipe_in_the_place_of_a_ledger_or_a_folder_is_not_opened(rt: HostRuntime) -> Result<(), Fail> {
+    let mut keeper = ann(rt)?;
+    fs::create_dir(&rt, "mail/ann")?;
+    let (reader, _writer) = io::pipe(&rt)?;
+    let pipe = format!(in rt.alloc(); "/proc/self/fd/{}", reader.as_raw_fd())?;
+    symlink(&rt, pipe.as_str(), "mail/ann/maildirsize")?;
+    symlink(&rt, pipe.as_str(), "mail/ann/new")?;
+    let steps = "read 0 => none
+append 0 1_1; => failed
+install 0 5C;
+read 0 => 5C;
+list INBOX => failed
+faults => 1 1";
+    check_steps(&rt, &mut keeper, steps)?;
+    fs::remove_dir_all(&rt, "mail")?;
     Ok(())
 }
 
@@ -441,6 +526,16 @@ impl Alloc for Refusing {
 
     fn alloc(&self) -> Global {
         self.rt.alloc()
+    }
+}
+
+impl Clock for Refusing {
+    fn monotonic(&self) -> io::Result<Duration> {
+        Err(io::Error::from(self.kind))
+    }
+
+    fn since_1970(&self) -> io::Result<Duration> {
+        Err(io::Error::from(self.kind))
     }
 }
 
