@@ -1,3 +1,4 @@
+pub mod Drafts
 pub mod Ledgers
 pub mod Names
 pub mod Paths

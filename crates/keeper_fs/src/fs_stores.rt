@@ -5,14 +5,19 @@ ghost use Rattle.keeper_fs.specs.Paths.{has_folder, is_path, path_in};
 ghost use Rattle.keeper_fs.specs.Real.{faults_of, append_faults_of, folder_of, lists_of, store_faults_of, store_folder_of};
 
 use crate::FsKeeper;
+use crate::drafts::remove_left;
 use crate::folders::path_in;
 use crate::names::file_name;
 use keeper::{KeepError, Stores};
 use quota_units::Failed;
 use std::alloc::Global;
 use std::fs::Files;
+use std::time::Clock;
 
 /// Accounts below one folder, each in its folder `<folder>/<account>`. Which there are is not told.
+///
+/// An opening removes from the account's folders `tmp` the messages that an earlier run of the service began to write and left
+/// there for more than 36 hours.
 #[derive(Drop)]
 pub struct FsStores<R> {
     rt: R,
@@ -20,7 +25,7 @@ pub struct FsStores<R> {
     faults: u64,
 }
 
-impl<R: Files + AllocGlobal + Clone + Drop> FsStores<R> {
+impl<R: Files + AllocGlobal + Clock + Clone + Drop> FsStores<R> {
     /// The accounts below a folder. Where its path is no text, or empty, no account can be opened.
     pub fn new(rt: R, folder: Vec<u8>) -> FsStores<R>
         ensures none { store_faults_of result ≡ 0 }
@@ -65,7 +70,8 @@ fn path_text(path: &[u8]) -> Result<&str, Failed>
     }
 }
 
-fn open_account<R: Files + AllocGlobal + Clone + Drop>(
+/// Opens an account, and removes what an earlier run left in its folders `tmp`.
+fn open_account<R: Files + AllocGlobal + Clock + Clone + Drop>(
     rt: &R,
     alloc: Global,
     folder: &[u8],
@@ -77,10 +83,12 @@ fn open_account<R: Files + AllocGlobal + Clone + Drop>(
     ensures only { IsErrOf result KeepError.Failed → has_folder folder.now account.now ≡ false }
 {
     let folder = account_folder(alloc, folder, account)?;
-    Ok(FsKeeper::new(rt.clone()?, folder))
+    let own = rt.clone()?;
+    remove_left(rt, folder.as_str());
+    Ok(FsKeeper::new(own, folder))
 }
 
-impl<R: Files + AllocGlobal + Clone + Drop> Stores for FsStores<R> {
+impl<R: Files + AllocGlobal + Clock + Clone + Drop> Stores for FsStores<R> {
     type K = FsKeeper<R>;
 
     ghost told = { λ _. None };

@@ -1,6 +1,7 @@
 //! Keepers over real folders: a Maildir++ tree for each account, below one folder.
 #![tactic(auto)]
 
+mod drafts;
 mod errors;
 mod folders;
 mod fs_keeper;

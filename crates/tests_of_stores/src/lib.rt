@@ -4,6 +4,8 @@
 #[cfg(test)]
 mod bases;
 #[cfg(test)]
+mod drafts;
+#[cfg(test)]
 mod faulty;
 #[cfg(test)]
 mod folders;

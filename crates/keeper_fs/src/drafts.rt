@@ -1,0 +1,97 @@
+ghost use Rattle.std.specs.Prelude.{◌≡◌};
+ghost use Rattle.std.specs.Time.{system_time_nanos};
+ghost use Rattle.keeper_fs.specs.Drafts.{is_delivery, was_left};
+
+use message_names::parse_name;
+use std::alloc::Global;
+use std::fs::{DirEntry, Files};
+use std::time::{Clock, Duration, SystemTime};
+use std::{fs, io};
+
+/// How many seconds a file stays in `tmp` before it counts as left: 36 hours.
+const SECONDS_LEFT: u64 = 129600;
+
+/// Removes the messages that an earlier run left in `tmp` of the account in this folder and of its folders `.<mailbox>`. No link
+/// is followed there. What can't be removed stays.
+pub(crate) fn remove_left<R: Files + AllocGlobal + Clock + Clone + Drop>(rt: &R, account: &str) {
+    if let Ok(now) = SystemTime::now(rt) {
+        let _ = clear_mailbox(rt, account, now);
+        let _ = clear_others(rt, account, now);
+    }
+}
+
+/// Removes what is left in the folders `.<mailbox>` of an account.
+fn clear_others<R: Files + AllocGlobal + Clone + Drop>(
+    rt: &R,
+    account: &str,
+    now: SystemTime,
+) -> io::Result<()> {
+    for entry in fs::read_dir(rt, account)? {
+        if let Ok(entry) = entry {
+            let _ = clear_other(rt, &entry, now);
+        }
+    }
+    Ok(())
+}
+
+fn clear_other<R: Files + AllocGlobal + Clone + Drop>(
+    rt: &R,
+    entry: &DirEntry<R, Global>,
+    now: SystemTime,
+) -> io::Result<()> {
+    if entry.file_name().starts_with('.') && entry.metadata()?.is_dir() {
+        clear_mailbox(rt, entry.path().as_str(), now)?;
+    }
+    Ok(())
+}
+
+/// Removes what is left in `tmp` of a mailbox's folder.
+fn clear_mailbox<R: Files + AllocGlobal + Clone + Drop>(
+    rt: &R,
+    folder: &str,
+    now: SystemTime,
+) -> io::Result<()> {
+    let tmp = format!(in rt.alloc(); "{folder}/tmp")?;
+    if !fs::symlink_metadata(rt, tmp.as_str())?.is_dir() {
+        return Ok(());
+    }
+    for entry in fs::read_dir(rt, tmp.as_str())? {
+        if let Ok(entry) = entry {
+            let _ = clear_draft(rt, &entry, now);
+        }
+    }
+    Ok(())
+}
+
+/// Removes a file if it is a message that was left.
+fn clear_draft<R: Files + AllocGlobal + Clone + Drop>(
+    rt: &R,
+    entry: &DirEntry<R, Global>,
+    now: SystemTime,
+) -> io::Result<()> {
+    if !is_delivery(entry.file_name().as_bytes()) {
+        return Ok(());
+    }
+    let metadata = entry.metadata()?;
+    if metadata.is_file() && was_left(metadata.modified()?, now) {
+        fs::remove_file(rt, entry.path())?;
+    }
+    Ok(())
+}
+
+/// Whether a name is that of a message that the service was delivering.
+fn is_delivery(name: &[u8]) -> bool
+    ensures { result ≡ is_delivery name.now }
+{
+    parse_name(name).base.ends_with(b".quotad")
+}
+
+/// Whether a file that was written then has stood for more than 36 hours.
+fn was_left(written: SystemTime, now: SystemTime) -> bool
+    ensures { result ≡ was_left (system_time_nanos written) (system_time_nanos now) }
+{
+    match now.duration_since(written) {
+        Ok(age) => age > Duration::from_secs(SECONDS_LEFT),
+        Err(_) => false,
+    }
+}
