@@ -12,14 +12,20 @@ no_line text nowhere = record {
   front = refl;
   ended = inl refl;
   most = list_any_none is_line_feed text
-      (λ k d within. ap is_line_feed (get_or_default text k d 0 within) ∙ false_from_ne_true _ (nowhere k (omega arith) within));
+      (λ k d within.
+      ap is_line_feed (get_or_default text k d 0 within)
+      ∙ false_from_ne_true _ (nowhere k (omega arith) within));
 }
 
-pub up_to_last : (text : List ℕ) (at : ℕ) → IsLastByte (is_byte 10) text (Some at) → AreWholeLines text (take (at + 1) text)
+pub up_to_last : (text : List ℕ) (at : ℕ) → IsLastByte (is_byte 10) text (Some at) →
+    AreWholeLines text (take (at + 1) text)
 up_to_last text at last = record {
   rest = drop (at + 1) text;
   front = sym (take-append-drop (at + 1) text);
-  ended = inr (take at text, rw (add-one, take-suc text at 0 last.0.high, eqb-true _ _ last.1) refl);
+  ended = inr (
+    take at text,
+    rw (add-one, take-suc text at 0 last.0.high, eqb-true _ _ last.1) refl,
+  );
   most = list_any_none is_line_feed (drop (at + 1) text) (λ k d within.
       let inside : at + 1 + k < length text = omega (arith, length-drop (at + 1) text, within) in
       ap is_line_feed (get_or-drop (at + 1) text k d ∙ get_or_default text (at + 1 + k) d 0 inside)

@@ -1,4 +1,5 @@
--- Paths of an account's files: a Maildir++ tree in a folder of its own, with the ledgers beside the folders of INBOX.
+-- Paths of an account's files: a Maildir++ tree in a folder of its own, with the ledgers beside the
+-- folders of INBOX.
 use Rattle.std.specs.Prelude.{◌≡◌, ℕ, Bool, ◌&&◌, List, ◌++◌, length, codes, nat_eq, nat_lt, bytes_eq, if◌then◌else◌}
 use Rattle.std.specs.String.{string_bytes}
 use Rattle.std.specs.Str.{is_utf8}
@@ -10,7 +11,8 @@ use Rattle.keeper_fs.specs.Names.{is_file_name}
 abbrev pub path_in : List ℕ → List ℕ → List ℕ
 path_in folder name = folder ++ (codes "/" ++ name)
 
--- the folder of a mailbox: the account's own of INBOX, and `.<mailbox>` in it of another (Maildir++)
+-- the folder of a mailbox: the account's own of INBOX, and `.<mailbox>` in it of another
+-- (Maildir++)
 abbrev pub mailbox_folder : List ℕ → List ℕ → List ℕ
 mailbox_folder account mailbox = if bytes_eq mailbox (codes "INBOX") then account else path_in account (codes "." ++ mailbox)
 

@@ -11,8 +11,8 @@ use std::{fs, io};
 /// How many seconds a file stays in `tmp` before it counts as left: 36 hours.
 const SECONDS_LEFT: u64 = 129600;
 
-/// Removes the messages that an earlier run left in `tmp` of the account in this folder and of its folders `.<mailbox>`. No link
-/// is followed there. What can't be removed stays.
+/// Removes the messages that an earlier run left in `tmp` of the account in this folder and of its
+/// folders `.<mailbox>`. No link is followed there. What can't be removed stays.
 pub(crate) fn remove_left<R: Files + AllocGlobal + Clock + Clone + Drop>(rt: &R, account: &str) {
     if let Ok(now) = SystemTime::now(rt) {
         let _ = clear_mailbox(rt, account, now);

@@ -14,8 +14,8 @@ use std::os::unix::fs::DirBuilderExt;
 /// The permissions of a new folder: its owner does all.
 const FOLDER_MODE: u32 = 0o700;
 
-/// The folder of a mailbox and the three in it (Maildir): a file is written in `tmp`, and is a message once it stands in `new`
-/// or `cur`.
+/// The folder of a mailbox and the three in it (Maildir): a file is written in `tmp`, and is a
+/// message once it stands in `new` or `cur`.
 #[derive(Drop)]
 pub(crate) struct Mailbox {
     pub(crate) folder: String,
@@ -25,8 +25,8 @@ pub(crate) struct Mailbox {
 }
 
 impl Mailbox {
-    /// The folders of a mailbox of the account in this folder: those of INBOX stand in it, and those of another mailbox in
-    /// its folder `.<mailbox>` (Maildir++).
+    /// The folders of a mailbox of the account in this folder: those of INBOX stand in it, and
+    /// those of another mailbox in its folder `.<mailbox>` (Maildir++).
     pub(crate) fn of(alloc: Global, account: &str, mailbox: &str) -> Result<Mailbox, AllocError>
         ensures { IfOk result (IsMailbox (mailbox_folder account.now mailbox.now)) }
     {
@@ -52,7 +52,8 @@ impl Mailbox {
     /// The folder in which a file of this name is put: `cur` if the name has flags, and else `new`.
     pub(crate) fn home(&self, name: &str) -> &str
         ensures cur { HasSubslice name.now (codes ":2,") → result.now ≡ string_bytes self.now.cur }
-        ensures new { ¬ HasSubslice name.now (codes ":2,") → result.now ≡ string_bytes self.now.new }
+        ensures new { ¬ HasSubslice name.now (codes ":2,")
+            → result.now ≡ string_bytes self.now.new }
     {
         if has_flags(name) {
             self.cur.as_str()
@@ -61,7 +62,8 @@ impl Mailbox {
         }
     }
 
-    /// Makes what is missing of the folders, and of the folder of the account to which the mailbox belongs.
+    /// Makes what is missing of the folders, and of the folder of the account to which the mailbox
+    /// belongs.
     pub(crate) fn make<R: Files>(&self, rt: &R, account: &str) -> io::Result<()> {
         make_folder(rt, account)?;
         for path in [&self.folder, &self.tmp, &self.new, &self.cur] {

@@ -13,12 +13,14 @@ use std::fs::Files;
 
 /// Keeps an account in a folder of its own, a Maildir++ tree. What the folder holds is not told.
 ///
-/// A message of INBOX is a file in `new` or `cur` of the folder, and one of another mailbox in `new` or `cur` of the folder's
-/// folder `.<mailbox>`. A message that was put outlives a crash. The ledger of root 0 is the file `maildirsize`, and that of root k
-/// `maildirsize.<k>`, if it is a regular file. New files have the permissions 0600 and new folders 0700.
+/// A message of INBOX is a file in `new` or `cur` of the folder, and one of another mailbox in
+/// `new` or `cur` of the folder's folder `.<mailbox>`. A message that was put outlives a crash. The
+/// ledger of root 0 is the file `maildirsize`, and that of root k `maildirsize.<k>`, if it is a
+/// regular file. New files have the permissions 0600 and new folders 0700.
 ///
-/// Each `Err` of the system is a fault, and so is want of memory where a call has no answer for it, a file that is to be renamed or
-/// removed and is not there, a name that is taken, and a line for a ledger that is not there or has no room for it.
+/// Each `Err` of the system is a fault, and so is want of memory where a call has no answer for it,
+/// a file that is to be renamed or removed and is not there, a name that is taken, and a line for a
+/// ledger that is not there or has no room for it.
 #[derive(Drop)]
 pub struct FsKeeper<R> {
     rt: R,
@@ -102,7 +104,8 @@ impl<R: Files + AllocGlobal + Clone + Drop> Keeper for FsKeeper<R> {
         ensures folder { folder_of self.new ≡ folder_of self.old }
         // Only a name that leads to no other folder is looked for.
         ensures outside { is_file_name mailbox.now ≡ false → IsErrOf result KeepError.Failed }
-        // Only a file whose name other calls take is listed, with the size that its name states as its length, where it states one.
+        // Only a file whose name other calls take is listed, with the size that its name states as
+        // its length, where it states one.
         ensures rows { IfOk result (λ rows. All IsMessageRow rows.items) }
     {
         self.lists = self.lists.saturating_add(1);
@@ -187,7 +190,8 @@ impl<R: Files + AllocGlobal + Clone + Drop> Keeper for FsKeeper<R> {
         ensures others { faults_of self.new ≡ faults_of self.old }
         ensures listings { lists_of self.new ≡ lists_of self.old }
         ensures folder { folder_of self.new ≡ folder_of self.old }
-        // No ledger has room for such a line. Whether one has room for a shorter line, its file says.
+        // No ledger has room for such a line. Whether one has room for a shorter line, its file
+        // says.
         ensures long { 5120 ≤ length line.now → IsErr result }
     {
         match ledgers::append(&self.rt, self.rt.alloc(), self.folder.as_str(), root, line) {

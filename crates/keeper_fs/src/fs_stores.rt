@@ -16,8 +16,8 @@ use std::time::Clock;
 
 /// Accounts below one folder, each in its folder `<folder>/<account>`. Which there are is not told.
 ///
-/// An opening removes from the account's folders `tmp` the messages that an earlier run of the service began to write and left
-/// there for more than 36 hours.
+/// An opening removes from the account's folders `tmp` the messages that an earlier run of the
+/// service began to write and left there for more than 36 hours.
 #[derive(Drop)]
 pub struct FsStores<R> {
     rt: R,
@@ -100,7 +100,8 @@ impl<R: Files + AllocGlobal + Clock + Clone + Drop> Stores for FsStores<R> {
         ensures cause { HasCause (IsErrOf result KeepError.Failed) (store_faults_of self.old) (store_faults_of self.new) }
         ensures listings { IfOk result (λ keeper. lists_of keeper ≡ 0) }
         ensures account { IfOk result (λ keeper. folder_of keeper ≡ path_in (store_folder_of self.old) account.now) }
-        // An opening fails exactly where the folder's path is no text or empty, or the name is no file's.
+        // An opening fails exactly where the folder's path is no text or empty, or the name is no
+        // file's.
         ensures outside { has_folder (store_folder_of self.old) account.now ≡ false → IsErrOf result KeepError.Failed }
         ensures only { IsErrOf result KeepError.Failed → has_folder (store_folder_of self.old) account.now ≡ false }
         ensures folder { store_folder_of self.new ≡ store_folder_of self.old }

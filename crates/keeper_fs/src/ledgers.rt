@@ -35,8 +35,8 @@ fn ledger_path(alloc: Global, account: &str, root: u32) -> Result<String, AllocE
     path_in(alloc, account, name.as_str())
 }
 
-/// The bytes of a root's ledger, or `None` if there is no regular file of its name. Of a file of 5120 octets or more these are
-/// the whole lines among its first 5120.
+/// The bytes of a root's ledger, or `None` if there is no regular file of its name. Of a file of
+/// 5120 octets or more these are the whole lines among its first 5120.
 pub(crate) fn read<R: Files>(
     rt: &R,
     alloc: Global,
@@ -57,7 +57,8 @@ pub(crate) fn read<R: Files>(
     Ok(Some(text))
 }
 
-/// Opens a ledger, or gives `None` if there is no regular file of this path. What is no regular file is not opened.
+/// Opens a ledger, or gives `None` if there is no regular file of this path. What is no regular
+/// file is not opened.
 fn open_ledger<R: Files>(rt: &R, path: &str) -> io::Result<Option<R::File>> {
     match open_regular(rt, path) {
         Err(error) if is_no_file(error.kind()) => Ok(None),
@@ -65,7 +66,8 @@ fn open_ledger<R: Files>(rt: &R, path: &str) -> io::Result<Option<R::File>> {
     }
 }
 
-/// Whether an error of this kind says that a path leads to no file: it isn't there, or its links go round.
+/// Whether an error of this kind says that a path leads to no file: it isn't there, or its links go
+/// round.
 fn is_no_file(kind: ErrorKind) -> bool {
     kind == ErrorKind::NotFound || kind == ErrorKind::FilesystemLoop
 }
@@ -83,10 +85,12 @@ fn open_regular<R: Files>(rt: &R, path: &str) -> io::Result<Option<R::File>> {
     }
 }
 
-/// Leaves a text of fewer than 5120 octets, and cuts a longer one to the whole lines among its first 5120.
+/// Leaves a text of fewer than 5120 octets, and cuts a longer one to the whole lines among its
+/// first 5120.
 fn keep_whole_lines(text: &mut Vec<u8>)
     ensures short { length text.old.items < 5120 → text.new.items ≡ text.old.items }
-    ensures long { 5120 ≤ length text.old.items → AreWholeLines (take 5120 text.old.items) text.new.items }
+    ensures long { 5120 ≤ length text.old.items
+        → AreWholeLines (take 5120 text.old.items) text.new.items }
     ensures bound { length text.new.items ≤ 5120 }
 {
     if (text.len() as u64) < LEDGER_ROOM {
@@ -109,8 +113,8 @@ fn end_of_lines(text: &[u8]) -> usize
     }
 }
 
-/// Writes a line behind the bytes of a root's ledger. It fails, and leaves what is there, if there is no regular file of its name,
-/// or the ledger would not stay below its room.
+/// Writes a line behind the bytes of a root's ledger. It fails, and leaves what is there, if there
+/// is no regular file of its name, or the ledger would not stay below its room.
 pub(crate) fn append<R: Files>(
     rt: &R,
     alloc: Global,
@@ -134,8 +138,8 @@ pub(crate) fn append<R: Files>(
     file.write_all(line).map_err(fault)
 }
 
-/// Puts a text in place of a root's ledger. If a folder is not there, it makes what is missing of the account's and tries once
-/// more.
+/// Puts a text in place of a root's ledger. If a folder is not there, it makes what is missing of
+/// the account's and tries once more.
 pub(crate) fn install<R: Files>(
     rt: &R,
     alloc: Global,

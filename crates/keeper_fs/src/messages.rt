@@ -1,6 +1,5 @@
-ghost use Rattle.std.specs.Prelude.{◌≡◌, ◌&&◌, codes, false, IfOk};
+ghost use Rattle.std.specs.Prelude.{◌≡◌, ◌&&◌, false, IfOk};
 ghost use Rattle.std.specs.String.{string_bytes};
-ghost use Rattle.std.specs.Str.Iter.{HasSubslice};
 ghost use Rattle.keeper_fs.specs.Names.{is_file_name};
 ghost use Rattle.keeper_fs.specs.Paths.{path_in};
 
@@ -23,8 +22,10 @@ struct Places {
 
 impl Places {
     fn of(alloc: Global, mailbox: &Mailbox, name: &str) -> Result<Places, AllocError>
-        ensures new { IfOk result (λ places. string_bytes places.new ≡ path_in (string_bytes mailbox.now.new) name.now) }
-        ensures cur { IfOk result (λ places. string_bytes places.cur ≡ path_in (string_bytes mailbox.now.cur) name.now) }
+        ensures new { let folder = string_bytes mailbox.now.new in
+            IfOk result (λ places. string_bytes places.new ≡ path_in folder name.now) }
+        ensures cur { let folder = string_bytes mailbox.now.cur in
+            IfOk result (λ places. string_bytes places.cur ≡ path_in folder name.now) }
     {
         Ok(Places {
             new: path_in(alloc, mailbox.new.as_str(), name)?,
@@ -48,7 +49,8 @@ fn require_none<R: Files>(rt: &R, path: &str) -> io::Result<()> {
     }
 }
 
-/// A message file that is to be added or renamed: where its name may not stand yet, and where it is to stand.
+/// A message file that is to be added or renamed: where its name may not stand yet, and where it is
+/// to stand.
 #[derive(Drop)]
 struct Arrival {
     taken: Places,
@@ -56,18 +58,18 @@ struct Arrival {
 }
 
 impl Arrival {
-    fn of(alloc: Global, mailbox: &Mailbox, name: &str) -> Result<Arrival, AllocError>
-        ensures new { ¬ HasSubslice name.now (codes ":2,") → IfOk result (λ arrival. string_bytes arrival.target ≡ path_in (string_bytes mailbox.now.new) name.now) }
-        ensures cur { HasSubslice name.now (codes ":2,") → IfOk result (λ arrival. string_bytes arrival.target ≡ path_in (string_bytes mailbox.now.cur) name.now) }
+    fn of(alloc: Global, mailbox: &Mailbox, home: &str, name: &str) -> Result<Arrival, AllocError>
+        ensures { IfOk result (λ arrival. string_bytes arrival.target ≡ path_in home.now name.now) }
     {
         Ok(Arrival {
             taken: Places::of(alloc, mailbox, name)?,
-            target: path_in(alloc, mailbox.home(name), name)?,
+            target: path_in(alloc, home, name)?,
         })
     }
 }
 
-/// Adds a message file to a mailbox. If a folder is not there, it makes what is missing and tries once more.
+/// Adds a message file to a mailbox. If a folder is not there, it makes what is missing and tries
+/// once more.
 pub(crate) fn put<R: Files>(
     rt: &R,
     alloc: Global,
@@ -76,14 +78,15 @@ pub(crate) fn put<R: Files>(
     name: &[u8],
     octets: &[u8],
 ) -> Result<(), KeepError>
-    ensures { (is_file_name mailbox.now && is_file_name name.now) ≡ false → result ≡ Err KeepError.Failed }
+    ensures { (is_file_name mailbox.now && is_file_name name.now) ≡ false
+        → result ≡ Err KeepError.Failed }
 {
     let mailbox = file_name(mailbox)?;
     let name = file_name(name)?;
     let folders = Mailbox::of(alloc, account, mailbox)?;
     let draft = path_in(alloc, folders.tmp.as_str(), name)?;
-    let arrival = Arrival::of(alloc, &folders, name)?;
     let home = folders.home(name);
+    let arrival = Arrival::of(alloc, &folders, home, name)?;
     match add(rt, draft.as_str(), home, &arrival, octets) {
         Err(error) if error.kind() == ErrorKind::NotFound => {
             folders.make(rt, account).map_err(fault)?;
@@ -104,8 +107,8 @@ fn add<R: Files>(
     add_file(rt, draft, home, arrival.target.as_str(), octets)
 }
 
-/// Gives a message file another mailbox and name. If the file or a folder is not there, it makes what is missing of that
-/// mailbox's folders and tries once more.
+/// Gives a message file another mailbox and name. If the file or a folder is not there, it makes
+/// what is missing of that mailbox's folders and tries once more.
 pub(crate) fn rename<R: Files>(
     rt: &R,
     alloc: Global,
@@ -115,7 +118,9 @@ pub(crate) fn rename<R: Files>(
     to: &[u8],
     new_name: &[u8],
 ) -> Result<(), KeepError>
-    ensures { (is_file_name from.now && (is_file_name name.now && (is_file_name to.now && is_file_name new_name.now))) ≡ false → result ≡ Err KeepError.Failed }
+    ensures { (is_file_name from.now && (is_file_name name.now
+        && (is_file_name to.now && is_file_name new_name.now))) ≡ false
+        → result ≡ Err KeepError.Failed }
 {
     let from = file_name(from)?;
     let name = file_name(name)?;
@@ -123,7 +128,7 @@ pub(crate) fn rename<R: Files>(
     let new_name = file_name(new_name)?;
     let old = Places::of(alloc, &Mailbox::of(alloc, account, from)?, name)?;
     let folders = Mailbox::of(alloc, account, to)?;
-    let arrival = Arrival::of(alloc, &folders, new_name)?;
+    let arrival = Arrival::of(alloc, &folders, folders.home(new_name), new_name)?;
     match move_file(rt, &old, &arrival) {
         Err(error) if error.kind() == ErrorKind::NotFound => {
             folders.make(rt, account).map_err(fault)?;
@@ -153,7 +158,8 @@ pub(crate) fn remove<R: Files>(
     mailbox: &[u8],
     name: &[u8],
 ) -> Result<(), KeepError>
-    ensures { (is_file_name mailbox.now && is_file_name name.now) ≡ false → result ≡ Err KeepError.Failed }
+    ensures { (is_file_name mailbox.now && is_file_name name.now) ≡ false
+        → result ≡ Err KeepError.Failed }
 {
     let mailbox = file_name(mailbox)?;
     let name = file_name(name)?;

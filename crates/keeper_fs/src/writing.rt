@@ -6,9 +6,10 @@ use std::{fs, io};
 /// The permissions of a new file: its owner reads and writes it.
 const FILE_MODE: u32 = 0o600;
 
-/// Adds a file with these bytes at `target` in `folder`, where no file may stand. The bytes are written at `draft` and handed to
-/// the disk, `draft` is linked to `target`, and the folder with its new name is handed to the disk. After an error no new name
-/// is left. The draft is removed in each case, if that can be done.
+/// Adds a file with these bytes at `target` in `folder`, where no file may stand. The bytes are
+/// written at `draft` and handed to the disk, `draft` is linked to `target`, and the folder with
+/// its new name is handed to the disk. After an error the new name is removed, and in each case the
+/// draft, if that can be done.
 pub(crate) fn add_file<R: Files>(
     rt: &R,
     draft: &str,
@@ -37,8 +38,9 @@ fn write_and_link<R: Files>(
     synced
 }
 
-/// Puts a file with these bytes at `target`, in place of one that stands there. They reach it as a whole: they are written at
-/// `draft`, handed to the disk, and renamed. After an error the draft is removed, if that can be done.
+/// Puts a file with these bytes at `target`, in place of one that stands there. They reach it as a
+/// whole: they are written at `draft`, handed to the disk, and renamed. After an error the draft is
+/// removed, if that can be done.
 pub(crate) fn replace_file<R: Files>(
     rt: &R,
     draft: &str,

@@ -125,21 +125,34 @@ fn a_message_is_put_whole_or_not_at_all(rt: HostRuntime) -> Result<(), Fail> {
         // The name is taken, and what has it stays.
         (
             Broken::Sight,
-            "put INBOX 1.mx two => failed\nfile ann/new/1.mx => one\ncount ann/tmp => 0\nfaults => 1 0",
+            "put INBOX 1.mx two => failed
+file ann/new/1.mx => one
+count ann/tmp => 0
+faults => 1 0",
         ),
         // The new name is taken back.
         (
             Broken::Sync,
-            "put INBOX 2.mx two => failed\ncount ann/new => 1\ncount ann/tmp => 0\nput INBOX 2.mx:2, two\nfaults => 1 0",
+            "put INBOX 2.mx two => failed
+count ann/new => 1
+count ann/tmp => 0
+put INBOX 2.mx:2, two
+faults => 1 0",
         ),
         // The draft is left, and the message is there.
         (
             Broken::Removal,
-            "put INBOX 2.mx two\nfile ann/new/2.mx => two\ncount ann/tmp => 1\nfaults => 0 0",
+            "put INBOX 2.mx two
+file ann/new/2.mx => two
+count ann/tmp => 1
+faults => 0 0",
         ),
         (
             Broken::Link,
-            "put INBOX 2.mx two => failed\ncount ann/new => 1\ncount ann/tmp => 0\nfaults => 1 0",
+            "put INBOX 2.mx two => failed
+count ann/new => 1
+count ann/tmp => 0
+faults => 1 0",
         ),
     ] {
         let _ = fs::remove_dir_all(&rt, "mail");

@@ -13,8 +13,9 @@ use std::test::Fail;
 use std::time::{Clock, Duration};
 use std::{fs, io};
 
-// Steps in a tree `mail`, one a line: a call of the keeper of the account `ann`, or a look at the files, as another program has
-// it. After an arrow stands the answer, which is `ok` if none is named. In a text `;` is a line's end and `_` a space.
+// Steps in a tree `mail`, one a line: a call of the keeper of the account `ann`, or a look at the
+// files, as another program has it. After an arrow stands the answer, which is `ok` if none is
+// named. In a text `;` is a line's end and `_` a space.
 
 /// A store is made where nothing was, and its calls do what they say.
 const STORE: &str = "list INBOX => 
@@ -60,7 +61,8 @@ file ann/maildirsize => 0S;
 count ann/tmp => 0
 faults => 0 2";
 
-/// A ledger stays below 5120 octets, of which FULL are 5112; another program writes more, of which whole lines are read.
+/// A ledger stays below 5120 octets, of which FULL are 5112; another program writes more, of which
+/// whole lines are read.
 const ROOM: &str = "install 0 FULL
 append 0 1234_1;
 append 0 ; => failed
@@ -81,7 +83,8 @@ install 0 0S;
 append 0 1_1;
 file ann/maildirsize => 0S;1_1;";
 
-/// A ledger that is no regular file is none, and no line is written to it. A link to a file is that file.
+/// A ledger that is no regular file is none, and no line is written to it. A link to a file is that
+/// file.
 const SPECIAL: &str = "folder ann/maildirsize.1
 link ann/maildirsize /dev/zero
 link ann/maildirsize.2 nowhere
@@ -158,8 +161,8 @@ const ORDER: &str = "put INBOX 1.mx,S=3:2,S one
 put INBOX 2.mx,S=3 two
 first INBOX => 2.mx,S=3";
 
-/// A name that stands in `new` or `cur` is taken, and one that is not there, or has a file where a folder should be, is a
-/// fault. Nothing half-written is left.
+/// A name that stands in `new` or `cur` is taken, and one that is not there, or has a file where a
+/// folder should be, is a fault. Nothing half-written is left.
 const TAKEN: &str = "put INBOX 1.mx one
 put INBOX 2.mx two
 move ann/new/2.mx ann/cur/2.mx
@@ -512,8 +515,8 @@ fn a_name_that_leads_elsewhere_is_a_fault_and_touches_nothing(rt: HostRuntime) -
     Ok(())
 }
 
-/// A system of which every call fails in one way; but each folder opens where `names` are given, and has these names, each
-/// ended by a byte 0.
+/// A system of which every call fails in one way; but each folder opens where `names` are given,
+/// and has these names, each ended by a byte 0.
 #[derive(Clone, Copy)]
 struct Refusing {
     rt: HostRuntime,
@@ -647,7 +650,8 @@ fn a_name_that_is_no_text_or_a_length_that_is_not_told_fails_the_listing(
             "list INBOX => failed\nfaults => 1 0",
             1,
         ),
-        // The length of a file whose name states it is not asked for. Each name stands in `new` and in `cur`.
+        // The length of a file whose name states it is not asked for. Each name stands in `new` and
+        // in `cur`.
         (
             b".\0..\x001.mx,S=3\x002.mx,S=4:2,S\0.\xff\0",
             "list INBOX => 1.mx,S=3 3;1.mx,S=3 3;2.mx,S=4:2,S 4;2.mx,S=4:2,S 4;\nfaults => 0 0",

@@ -14,4 +14,6 @@ mod keepers;
 #[cfg(test)]
 mod openings;
 #[cfg(test)]
+mod orders;
+#[cfg(test)]
 mod turns;
