@@ -1,0 +1,310 @@
+// Accounts in folders, closed and opened again.
+
+use crate::calls::{Account, answer};
+use account_ledger::{AccountState, OpenFault};
+use keeper::Stores;
+use keeper_fs::FsStores;
+use quota_roots::{LimitsList, NameList, RootSpec, Roots, Setup};
+use quota_units::{Limits, Name};
+use std::alloc::Global;
+use std::fs::Files;
+use std::os::unix::fs::symlink;
+use std::os::unix::io::AsRawFd;
+use std::process::Abort;
+use std::test::Fail;
+use std::{fs, io};
+
+// A step is a call, one a line. After an arrow stands its answer. In a text `;` is a line's end and
+// `_` a space.
+
+/// A first day of the account.
+const FIRST: &str = "standings => doubt;doubt;
+deliver INBOX 400 - => Delivered { number: 1 }
+deliver INBOX 300 S => Delivered { number: 2 }
+deliver Lists 50 - => Delivered { number: 3 }
+deliver Lists 60 T => Delivered { number: 4 }
+deliver Trash 1000 - => Delivered { number: 5 }
+mark INBOX 1700000000.1.quotad FS => Marked
+move Lists 1700000000.3.quotad INBOX => Moved
+move Lists 1700000000.3.quotad INBOX => NoMessage
+remove INBOX 1700000000.2.quotad => Removed
+limits lists - 7 => 60 1 of None Some(7)
+deliver INBOX 99491 - => Over { root: 0, resource: Storage }
+usage 0 => 510 3
+usage 1 => 60 1
+standings => settled;settled;
+faults => 0 0";
+
+/// The files that are left after it.
+const FIRST_FILES: [(&str, &str); 4] = [
+    ("ann/new", "1700000000.3.quotad,S=50;"),
+    ("ann/cur", "1700000000.1.quotad,S=400:2,FS;"),
+    ("ann/.Lists/cur", "1700000000.4.quotad,S=60:2,T;"),
+    ("ann/.Trash/new", "1700000000.5.quotad,S=1000;"),
+];
+
+const FIRST_LEDGERS: [(&str, &str); 2] = [
+    (
+        "ann/maildirsize",
+        "100000S,10C;0_0;400_1;300_1;50_1;60_1;-300_-1;",
+    ),
+    ("ann/maildirsize.1", "7C;60_1;"),
+];
+
+/// The next second: the messages, the limits and the usages are as they were.
+const SECOND: &str = "standings => doubt;doubt;
+usage 0 => 510 3
+quota lists => 60 1 of None Some(7)
+deliver INBOX 10 - => Delivered { number: 1 }
+mark INBOX 1700000000.1.quotad - => Marked
+move INBOX 1700000000.1.quotad Lists => Moved
+quota - => 520 4 of Some(100000) Some(10)
+usage 1 => 460 2
+faults => 0 0";
+
+const SECOND_FILES: [(&str, &str); 4] = [
+    (
+        "ann/new",
+        "1700000000.3.quotad,S=50;1700000001.1.quotad,S=10;",
+    ),
+    ("ann/cur", ""),
+    (
+        "ann/.Lists/cur",
+        "1700000000.1.quotad,S=400:2,;1700000000.4.quotad,S=60:2,T;",
+    ),
+    ("ann/.Trash/new", "1700000000.5.quotad,S=1000;"),
+];
+
+const SECOND_LEDGERS: [(&str, &str); 2] = [
+    ("ann/maildirsize", "100000S,10C;510_3;10_1;"),
+    ("ann/maildirsize.1", "7C;60_1;400_1;"),
+];
+
+fn limits(octets: Option<u64>, count: Option<u64>) -> Result<Limits, Fail> {
+    Ok(Limits::new(octets, count).ok_or("limits in range")?)
+}
+
+/// INBOX, Lists and Trash; a root of 100000 octets and 10 messages, and one of the lists of 5
+/// messages.
+fn setup(alloc: Global) -> Result<Setup, Fail> {
+    let all = RootSpec {
+        name: Name::of(alloc, b"")?,
+        prefix: None,
+    };
+    let lists = RootSpec {
+        name: Name::of(alloc, b"lists")?,
+        prefix: Some(Name::of(alloc, b"Lists")?),
+    };
+    let mut mailboxes = Vec::new(alloc);
+    for name in [b"INBOX".as_slice(), b"Lists", b"Trash"] {
+        mailboxes.push(Name::of(alloc, name)?)?;
+    }
+    let limits = vec![in alloc; limits(Some(100000), Some(10))?, limits(None, Some(5))?]?;
+    Ok(Setup {
+        roots: Roots::new(vec![in alloc; all, lists]?)?,
+        limits: LimitsList::new(limits),
+        mailboxes: NameList::new(mailboxes),
+        journal: 100,
+    })
+}
+
+/// Opens the account `ann` at this second.
+fn open(alloc: Global, stores: &mut FsStores<HostRuntime>, second: u64) -> Result<Account, Fail> {
+    let setup = setup(alloc)?;
+    if !setup.is_sound() {
+        return Err("an unsound setup".into());
+    }
+    let keeper = stores.open(alloc, b"ann")?;
+    match AccountState::open(alloc, keeper, setup, second) {
+        Ok(account) => Ok(account),
+        Err(fault) => {
+            let OpenFault { cause, keeper } = fault;
+            stores.close(b"ann", keeper);
+            Err(cause.into())
+        }
+    }
+}
+
+/// Does steps and checks their answers.
+fn check_steps(
+    rt: &(impl Abort + AllocGlobal),
+    account: &mut Account,
+    steps: &str,
+) -> Result<(), Fail> {
+    for row in steps.lines() {
+        let (step, expected) = row.split_once(" => ").unwrap_or((row, ""));
+        let mut words = step.split(' ');
+        let verb = words.next().unwrap_or("");
+        let first = words.next().unwrap_or("");
+        let second = words.next().unwrap_or("");
+        let third = words.next().unwrap_or("");
+        let found = answer(rt.alloc(), account, [verb, first, second, third])?;
+        assert_eq!(rt; found.as_str(), expected, "{step}");
+    }
+    Ok(())
+}
+
+/// Checks which names stand in folders.
+fn check_folders(
+    rt: &(impl Abort + Files + AllocGlobal + Clone + Drop),
+    folders: &[(&str, &str)],
+) -> Result<(), Fail> {
+    let alloc = rt.alloc();
+    for (folder, expected) in folders {
+        let path = format!(in alloc; "mail/{folder}")?;
+        let mut names = Vec::new(alloc);
+        for entry in fs::read_dir(rt, path.as_str())? {
+            names.push(format!(in alloc; "{};", entry?.file_name())?)?;
+        }
+        names.sort()?;
+        let mut shown = String::new(alloc);
+        for name in names.iter() {
+            shown.push_str(name.as_str())?;
+        }
+        assert_eq!(rt; shown.as_str(), *expected, "{folder}");
+    }
+    Ok(())
+}
+
+/// Checks the texts of files.
+fn check_files(
+    rt: &(impl Abort + Files + AllocGlobal),
+    files: &[(&str, &str)],
+) -> Result<(), Fail> {
+    let alloc = rt.alloc();
+    for (path, expected) in files {
+        let text = fs::read_to_string(rt, format!(in alloc; "mail/{path}")?.as_str())?;
+        let text = text.replace(alloc, "\n", ";")?.replace(alloc, " ", "_")?;
+        assert_eq!(rt; text.as_str(), *expected, "{path}");
+    }
+    Ok(())
+}
+
+/// The stores below `mail`, which is made anew.
+fn stores(rt: HostRuntime) -> Result<FsStores<HostRuntime>, Fail> {
+    let _ = fs::remove_dir_all(&rt, "mail");
+    fs::create_dir(&rt, "mail")?;
+    Ok(FsStores::new(rt, b"mail".to_vec(rt.alloc())?))
+}
+
+#[test]
+fn an_account_is_as_it_was_when_it_is_opened_again(rt: HostRuntime) -> Result<(), Fail> {
+    let alloc = rt.alloc();
+    let mut stores = stores(rt)?;
+    for (second, steps, folders, ledgers) in [
+        (1700000000, FIRST, FIRST_FILES, FIRST_LEDGERS),
+        (1700000001, SECOND, SECOND_FILES, SECOND_LEDGERS),
+    ] {
+        let mut account = open(alloc, &mut stores, second)?;
+        check_steps(&rt, &mut account, steps)?;
+        stores.close(b"ann", account.into_keeper());
+        check_folders(&rt, &folders)?;
+        check_files(&rt, &ledgers)?;
+    }
+    assert_eq!(rt; stores.faults(), 0);
+    fs::remove_dir_all(&rt, "mail")?;
+    Ok(())
+}
+
+/// What stands in the place of a ledger.
+#[derive(Drop)]
+enum Found {
+    Text(&'static str),
+    Folder,
+    Link(&'static str),
+    Pipe,
+    Nothing,
+}
+
+/// Puts this in the place of the ledger of root 0. What is answered keeps a pipe open.
+fn put_ledger(
+    rt: &HostRuntime,
+    found: &Found,
+) -> Result<Option<(io::PipeReader, io::PipeWriter)>, Fail> {
+    let alloc = rt.alloc();
+    let path = "mail/ann/maildirsize";
+    match found {
+        Found::Text(text) => {
+            let text = text.replace(alloc, "LONG", "1S,".repeat(alloc, 2000)?.as_str())?;
+            fs::write(rt, path, text.as_str())?;
+        }
+        Found::Folder => fs::create_dir(rt, path)?,
+        Found::Link(target) => symlink(rt, *target, path)?,
+        Found::Pipe => {
+            let (reader, writer) = io::pipe(rt)?;
+            let pipe = format!(in alloc; "/proc/self/fd/{}", reader.as_raw_fd())?;
+            symlink(rt, pipe.as_str(), path)?;
+            return Ok(Some((reader, writer)));
+        }
+        Found::Nothing => {}
+    }
+    Ok(None)
+}
+
+/// The limits of the setup.
+const OWN: &str = "quota - => 7 1 of Some(100000) Some(10)
+standings => settled;doubt;
+faults => 0 0";
+
+/// Limits of a ledger.
+const OTHER: &str = "quota - => 7 1 of Some(900) Some(9)
+standings => settled;doubt;
+faults => 0 0";
+
+/// A folder stays in the place of the ledger.
+const STUCK: &str = "quota - => Store
+standings => doubt;doubt;
+faults => 1 0";
+
+#[test]
+fn no_ledger_keeps_an_account_from_being_opened(rt: HostRuntime) -> Result<(), Fail> {
+    let alloc = rt.alloc();
+    for (found, steps, ledger) in [
+        (Found::Text("900S,9C\n12"), OTHER, "900S,9C;7_1;"),
+        (Found::Text("900S,9C\n1 1\nLONG"), OTHER, "900S,9C;7_1;"),
+        (Found::Text("\u{e9}\0garbage\n"), OWN, "100000S,10C;7_1;"),
+        (Found::Text("1S,LONG1S"), OWN, "100000S,10C;7_1;"),
+        (Found::Link("/dev/zero"), OWN, "100000S,10C;7_1;"),
+        (Found::Link("maildirsize"), OWN, "100000S,10C;7_1;"),
+        (Found::Pipe, OWN, "100000S,10C;7_1;"),
+        (Found::Nothing, OWN, "100000S,10C;7_1;"),
+        (Found::Folder, STUCK, ""),
+    ] {
+        let mut stores = stores(rt)?;
+        fs::create_dir_all(&rt, "mail/ann/new")?;
+        fs::write(&rt, "mail/ann/new/1.mx", "1234567")?;
+        let _kept = put_ledger(&rt, &found)?;
+        let mut account = open(alloc, &mut stores, 1700000000)?;
+        check_steps(&rt, &mut account, steps)?;
+        stores.close(b"ann", account.into_keeper());
+        if !ledger.is_empty() {
+            check_files(&rt, &[("ann/maildirsize", ledger)])?;
+        }
+        fs::remove_dir_all(&rt, "mail")?;
+    }
+    Ok(())
+}
+
+#[test]
+fn a_ledger_that_goes_away_is_written_anew_with_its_limits(rt: HostRuntime) -> Result<(), Fail> {
+    let alloc = rt.alloc();
+    let mut stores = stores(rt)?;
+    let mut account = open(alloc, &mut stores, 1700000000)?;
+    let before = "limits - 900 9 => 0 0 of Some(900) Some(9)
+deliver INBOX 100 - => Delivered { number: 1 }
+standings => settled;doubt;
+faults => 0 0";
+    check_steps(&rt, &mut account, before)?;
+    fs::remove_file(&rt, "mail/ann/maildirsize")?;
+    let after = "deliver INBOX 10 - => Delivered { number: 2 }
+standings => doubt;doubt;
+faults => 0 1
+usage 0 => 110 2
+faults => 0 1";
+    check_steps(&rt, &mut account, after)?;
+    stores.close(b"ann", account.into_keeper());
+    assert_eq!(rt; stores.faults(), 0);
+    check_files(&rt, &[("ann/maildirsize", "900S,9C;110_2;")])?;
+    fs::remove_dir_all(&rt, "mail")?;
+    Ok(())
+}

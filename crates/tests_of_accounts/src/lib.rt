@@ -1,0 +1,7 @@
+//! Tests of accounts over folders.
+#![tactic(auto)]
+
+#[cfg(test)]
+mod calls;
+#[cfg(test)]
+mod folders;
