@@ -1,5 +1,5 @@
 -- The whole lines of a text, by its last line feed.
-use Rattle.std.proofs.Common.{◌≡◌, ℕ, ◌+◌, ◌<◌, List, [], length, take, drop, None, Some, refl, sym, ap, ◌∙◌, arith, inl, inr, add-one, take-append-drop, take-suc, length-drop, get_or-drop, eqb-true}
+use Rattle.std.proofs.Common.{ℕ, ◌+◌, ◌<◌, List, length, take, drop, None, Some, refl, sym, ap, ◌∙◌, arith, inl, inr, add-one, take-append-drop, take-suc, length-drop, get_or-drop, eqb-true}
 use Rattle.std.proofs.lemmas.Bool.{false_from_ne_true}
 use Rattle.std.proofs.lemmas.List.{get_or_default}
 use Rattle.std.proofs.lemmas.List.Folds.{list_any_none}
