@@ -6,14 +6,12 @@ mod bases;
 #[cfg(test)]
 mod drafts;
 #[cfg(test)]
-mod faulty;
-#[cfg(test)]
 mod folders;
 #[cfg(test)]
 mod keepers;
 #[cfg(test)]
 mod openings;
 #[cfg(test)]
-mod orders;
+mod systems;
 #[cfg(test)]
 mod turns;

@@ -1,4 +1,5 @@
-// What the calls of a keeper do to the disk and in which order, by a system that writes it down.
+// What the calls of a keeper do to the disk and in which order, by a system that writes it down,
+// and in which one thing may be broken.
 
 use crate::folders::check_steps;
 use keeper::Stores;
@@ -6,7 +7,7 @@ use keeper_fs::FsStores;
 use std::alloc::{Allocator, Global};
 use std::cell::Cell;
 use std::fs::{File, Files, Metadata, OpenFile, OpenOptions};
-use std::io::{Read, Seek, SeekFrom, Write};
+use std::io::{ErrorKind, Read, Seek, SeekFrom, Write};
 use std::test::Fail;
 use std::time::{Clock, Duration};
 use std::{fs, io};
@@ -30,10 +31,25 @@ const MADE_FOLDER: u64 = 8;
 
 const OPENED: u64 = 9;
 
-/// A system that writes down what it has done.
+/// What is broken of a system.
+#[derive(Clone, Copy)]
+enum Broken {
+    Nothing,
+    /// No file is seen by its name.
+    Sight,
+    /// A folder `new` can't be opened, and so not be handed to the disk.
+    Sync,
+    /// No file can be removed from `tmp`.
+    Removal,
+    /// No file is linked.
+    Link,
+}
+
+/// A system that writes down what it has done, and fails in what is broken of it.
 #[derive(Clone, Copy)]
 struct Watched<'a> {
     rt: HostRuntime,
+    broken: Broken,
     done: &'a Cell<u64>,
 }
 
@@ -43,6 +59,10 @@ struct WatchedFile<'a> {
     file: File,
     is_new: bool,
     done: &'a Cell<u64>,
+}
+
+fn refused<T>() -> io::Result<T> {
+    Err(io::Error::from(ErrorKind::PermissionDenied))
 }
 
 fn write_down(done: &Cell<u64>, digit: u64) {
@@ -122,6 +142,9 @@ impl<'a> Files for Watched<'a> {
     type Dir = <HostRuntime as Files>::Dir;
 
     fn open_file(&self, how: &OpenOptions, path: &str) -> io::Result<WatchedFile<'a>> {
+        if matches!(self.broken, Broken::Sync) && path.ends_with("/new") {
+            return refused();
+        }
         let file = self.rt.open_file(how, path)?;
         let is_new = how.asks_create_new();
         write_down(self.done, if is_new { MADE_FILE } else { OPENED });
@@ -141,6 +164,9 @@ impl<'a> Files for Watched<'a> {
     }
 
     fn symlink_metadata(&self, path: &str) -> io::Result<Metadata> {
+        if matches!(self.broken, Broken::Sight) {
+            return Err(io::Error::from(ErrorKind::NotFound));
+        }
         self.rt.symlink_metadata(path)
     }
 
@@ -155,6 +181,9 @@ impl<'a> Files for Watched<'a> {
     }
 
     fn remove_file(&self, path: &str) -> io::Result<()> {
+        if matches!(self.broken, Broken::Removal) && path.contains("/tmp/") {
+            return refused();
+        }
         self.rt.remove_file(path)?;
         write_down(self.done, UNLINKED);
         Ok(())
@@ -173,6 +202,9 @@ impl<'a> Files for Watched<'a> {
     }
 
     fn hard_link(&self, original: &str, link: &str) -> io::Result<()> {
+        if matches!(self.broken, Broken::Link) {
+            return refused();
+        }
         self.rt.hard_link(original, link)?;
         write_down(self.done, LINKED);
         Ok(())
@@ -193,7 +225,12 @@ fn what_is_answered_ok_was_handed_to_the_disk_before_and_no_device_is_opened(
     let _ = fs::remove_dir_all(&rt, "mail");
     fs::create_dir(&rt, "mail")?;
     let done = Cell::new(0);
-    let mut stores = FsStores::new(Watched { rt, done: &done }, b"mail".to_vec(alloc)?);
+    let watched = Watched {
+        rt,
+        broken: Broken::Nothing,
+        done: &done,
+    };
+    let mut stores = FsStores::new(watched, b"mail".to_vec(alloc)?);
     let mut keeper = stores.open(alloc, b"ann")?;
     for (step, expected) in [
         // The account's folder, `tmp`, `new` and `cur` are made first, each with its name synced.
@@ -219,5 +256,64 @@ fn what_is_answered_ok_was_handed_to_the_disk_before_and_no_device_is_opened(
         assert_eq!(rt; done.get(), expected, "{step}");
     }
     fs::remove_dir_all(&rt, "mail")?;
+    Ok(())
+}
+
+#[test]
+fn a_message_is_put_whole_or_not_at_all(rt: HostRuntime) -> Result<(), Fail> {
+    let alloc = rt.alloc();
+    let done = Cell::new(0);
+    for (broken, steps) in [
+        // The name is taken, and what has it stays.
+        (
+            Broken::Sight,
+            "put INBOX 1.mx two => failed
+file ann/new/1.mx => one
+count ann/tmp => 0
+faults => 1 0",
+        ),
+        // The new name is taken back.
+        (
+            Broken::Sync,
+            "put INBOX 2.mx two => failed
+count ann/new => 1
+count ann/tmp => 0
+put INBOX 2.mx:2, two
+faults => 1 0",
+        ),
+        // The draft is left, and the message is there.
+        (
+            Broken::Removal,
+            "put INBOX 2.mx two
+file ann/new/2.mx => two
+count ann/tmp => 1
+faults => 0 0",
+        ),
+        (
+            Broken::Link,
+            "put INBOX 2.mx two => failed
+count ann/new => 1
+count ann/tmp => 0
+faults => 1 0",
+        ),
+    ] {
+        let _ = fs::remove_dir_all(&rt, "mail");
+        let mut sound = FsStores::new(rt, b"mail".to_vec(alloc)?);
+        let mut keeper = sound.open(alloc, b"ann")?;
+        check_steps(
+            &rt,
+            &mut keeper,
+            "put INBOX 1.mx one\nmode ann => 700\nfaults => 0 0",
+        )?;
+        let watched = Watched {
+            rt,
+            broken,
+            done: &done,
+        };
+        let mut stores = FsStores::new(watched, b"mail".to_vec(alloc)?);
+        let mut keeper = stores.open(alloc, b"ann")?;
+        check_steps(&rt, &mut keeper, steps)?;
+        fs::remove_dir_all(&rt, "mail")?;
+    }
     Ok(())
 }
