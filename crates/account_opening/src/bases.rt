@@ -4,7 +4,7 @@ ghost use Rattle.std.specs.Option.{option_map};
 ghost use Rattle.account_opening.specs.Bases.{AreApart, AreNoted, base_in, double_in, noted, shown, used_in};
 
 use keeper::FileRow;
-use message_names::parse_name;
+use message_names::base_of;
 use quota_units::{Name, NameError};
 use std::alloc::{AllocError, Global};
 use std::collections::BTreeMap;
@@ -12,7 +12,7 @@ use std::collections::BTreeMap;
 fn base_in(file: &FileRow) -> &[u8]
     ensures { result.now ≡ base_in file.now }
 {
-    parse_name(file.name.as_slice()).base
+    base_of(file.name.as_slice())
 }
 
 /// Notes one more file of this base, up to the second, and tells whether one was noted before.

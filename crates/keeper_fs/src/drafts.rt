@@ -2,7 +2,7 @@ ghost use Rattle.std.specs.Prelude.{◌≡◌};
 ghost use Rattle.std.specs.Time.{system_time_nanos};
 ghost use Rattle.keeper_fs.specs.Drafts.{is_delivery, was_left};
 
-use message_names::parse_name;
+use message_names::base_of;
 use std::alloc::Global;
 use std::fs::{DirEntry, Files};
 use std::time::{Clock, Duration, SystemTime};
@@ -83,7 +83,7 @@ fn clear_draft<R: Files + AllocGlobal + Clone + Drop>(
 fn is_delivery(name: &[u8]) -> bool
     ensures { result ≡ is_delivery name.now }
 {
-    parse_name(name).base.ends_with(b".quotad")
+    base_of(name).ends_with(b".quotad")
 }
 
 /// Whether a file that was written then has stood for more than 36 hours.

@@ -10,6 +10,6 @@ mod sizes;
 mod writing;
 
 pub use laws::{one_size, renamed_reads_back, written_reads_back};
-pub use parts::{NameParts, parse_name};
+pub use parts::{NameParts, base_of, parse_name};
 pub use sizes::size_of;
 pub use writing::{NameFault, print_name, with_flags};

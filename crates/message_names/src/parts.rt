@@ -45,3 +45,13 @@ pub fn parse_name(name: &[u8]) -> NameParts<'_>
         flags: Flags::among(behind_two(info)),
     }
 }
+
+/// The base of a message file name: what stands before the first `,` of its unique part, or all of that part. Size and
+/// flags are not read. It takes no memory.
+pub fn base_of(name: &[u8]) -> &[u8]
+    ensures { result.now ≡ base_of name.now }
+{
+    let (unique, _info) = around_first(b':', name);
+    let (base, _fields) = around_first(b',', unique);
+    base
+}
