@@ -1,5 +1,5 @@
 -- What the entries of a legal history meet, and how many of them have fault; and laws of deliveries and moves, over every history.
-use Rattle.std.specs.Prelude.{◌≡◌, ◌≢◌, ◌≤◌, ◌↔◌, ℕ, true, false, if◌then◌else◌, List, [], ◌∷◌, ◌++◌, sum_by, codes, Some, None}
+use Rattle.std.specs.Prelude.{◌≡◌, ◌≢◌, ◌≤◌, ◌↔◌, ◌+◌, ◌-◌, ◌^◌, ℕ, min, true, false, if◌then◌else◌, List, [], ◌∷◌, ◌++◌, length, sum_by, codes, Some, None}
 use Rattle.quota_units.specs.Limiting.{LimitNumbers}
 use Rattle.quota_units.specs.declared.flags.Flags.{Flags}
 use Rattle.quota_units.specs.declared.resource.Resource.{Resource}
@@ -8,7 +8,7 @@ use Rattle.quota_roots.specs.declared.root.RootSpec.{RootSpec}
 use Rattle.quota_roots.specs.Governing.{gaining, governing, governs_at}
 use Rattle.admission.specs.Fitting.{allows, limits_at, totals_at, FitsEach}
 use Rattle.account_core.specs.declared.calls.Call.{Call}
-use Rattle.account_core.specs.declared.calls.Call.TheVariants.{Deliver, Check, Remove, Mark, Move, Quota, SetLimits, Roots, Status, ScanBegin, ScanPart, Install}
+use Rattle.account_core.specs.declared.calls.Call.TheVariants.{Deliver, Check, Move, Install}
 use Rattle.account_core.specs.declared.calls.Entry.{Entry}
 use Rattle.account_core.specs.declared.calls.Reply.{Reply}
 use Rattle.account_core.specs.declared.calls.Reply.TheVariants.{Over, Delivered, Moved}
@@ -17,20 +17,20 @@ use Rattle.account_core.specs.Messages.{named_message}
 use Rattle.account_core.specs.Machine.{has_mailbox, usages}
 use Rattle.account_core.specs.History.{replay, reply, entry_of}
 
--- what each call has to meet: a message has at most 67108864 octets
+-- what the call of an entry has to meet: a message has at most 67108864 octets
 abbrev pub MayBeServed : Call → Type 0
 MayBeServed (Deliver mailbox octets flags) = octets ≤ 67108864
-MayBeServed (Check octets) = Unit {0}
-MayBeServed (Quota name) = Unit {0}
-MayBeServed (SetLimits name limits) = Unit {0}
-MayBeServed (Roots mailbox) = Unit {0}
-MayBeServed (Remove mailbox base) = Unit {0}
-MayBeServed (Mark mailbox base flags) = Unit {0}
-MayBeServed (Move from base to) = Unit {0}
-MayBeServed (Status mailbox) = Unit {0}
-MayBeServed ScanBegin = Unit {0}
-MayBeServed (ScanPart index) = Unit {0}
-MayBeServed (Install generation) = Unit {0}
+MayBeServed call = Unit {0}
+
+-- what a call has to meet that an account is asked; an install has a method of its own
+abbrev pub MayBeAsked : Call → Type 0
+MayBeAsked (Install generation) = ⊥
+MayBeAsked call = MayBeServed call
+
+-- the octets of a message are as many as the call says; other calls have none
+abbrev pub HasBytes : Call → List ℕ → Type 0
+HasBytes (Deliver mailbox octets flags) bytes = octets ≡ length bytes
+HasBytes call bytes = bytes ≡ []
 
 -- each entry's call meets that
 abbrev pub AreServed : List Entry → Type 0
@@ -40,6 +40,14 @@ AreServed (entry ∷ entries) = MayBeServed entry.call × AreServed entries
 -- how many entries have fault
 abbrev pub fault_count : List Entry → ℕ
 fault_count entries = sum_by (λ entry. if entry.fault then 1 else 0) entries
+
+-- A history is legal: it has no more entries than the journal takes, each of a call that may be
+-- served, and no more of them with fault than the store has counted faults since the opening. A
+-- count that stands at its type's end may have met more.
+pub record IsLegal (journal first_faults faults : ℕ) (history : List Entry) : Type 0 where
+  pub within : length history ≤ journal
+  pub served : AreServed history
+  pub excused : min (first_faults + fault_count history) (2 ^ 64 - 1) ≤ faults
 
 -- the limits allow so much
 pub record AreWithin (limits : LimitNumbers) (totals : Totals) : Type 0 where

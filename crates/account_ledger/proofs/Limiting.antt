@@ -1,154 +1,135 @@
--- The limits of a root are set: what is kept stays in order, and what the call is answered.
-use Rattle.std.proofs.Common.{◌≡◌, ◌≢◌, ℕ, ◌+◌, ◌<◌, ◌≤◌, true, false, List, [], ◌∷◌, ◌++◌, length, set, Option, Some, None, refl, sym, ap, ◌∙◌, inl, inr, subst, arith}
-use Rattle.std.specs.Prelude.{IfSome}
-use Rattle.std.specs.Option.{option_map}
+-- The limits of a root are set: what is kept stands for the account still, and what the call is answered.
+use Rattle.std.proofs.Common.{◌≡◌, ◌≢◌, ℕ, ◌<◌, List, [], length, set, Option, Some, None, refl, sym, ap, ◌∙◌, inl, inr, subst, arith}
 use Rattle.std.proofs.Math.Seq.{map-set_same}
 use Rattle.std.proofs.lemmas.Bool.{cases_eq}
-use Rattle.std.proofs.lemmas.List.{get_or-set_same, get_or-set_other, length-set, length_push}
-use Rattle.std.proofs.lemmas.List.Elements.{All-set}
+use Rattle.std.proofs.lemmas.List.{get_or-set_same, get_or-set_other}
+use Rattle.std.specs.Prelude.{Ok}
+use Rattle.quota_units.specs.Causes.{HasCause}
 use Rattle.quota_units.specs.Limiting.{LimitNumbers}
+use Rattle.quota_units.specs.Sums.{AreSmall}
 use Rattle.quota_units.specs.declared.totals.Totals.{Totals}
-use Rattle.quota_roots.specs.declared.setup.Setup.{Setup}
 use Rattle.quota_roots.specs.RootLists.{place_of}
+use Rattle.quota_roots.specs.declared.root.RootSpec.{RootSpec}
 use Rattle.keeper.specs.Files.{Files, ledger_at, ledger_bytes}
-use Rattle.keeper.specs.Calls.{Told, Changes, Writes}
-use Rattle.quota_units.specs.Causes.{Rose}
+use Rattle.keeper.specs.Calls.{Told, Writes, Changes, Due, OnFiles}
+use Rattle.keeper.proofs.Changing.{changes_weaken}
+use Rattle.keeper.proofs.Spending.{spends_not}
+use Rattle.keeper.proofs.LedgerLemmas.{rows_same}
 use Rattle.admission.specs.Fitting.{limits_at}
 use Rattle.account_core.specs.declared.calls.Call.TheVariants.{SetLimits}
-use Rattle.account_core.specs.declared.calls.Entry.{Entry}
-use Rattle.account_core.specs.declared.calls.Reply.TheVariants.{LimitsSet}
+use Rattle.account_core.specs.declared.calls.Reply.TheVariants.{LimitsSet, NoRoot}
 use Rattle.account_core.specs.Account.{Account}
 use Rattle.account_core.specs.Machine.{reply_of, step, limits_after}
-use Rattle.account_core.specs.History.{replay, entry_of}
-use Rattle.account_core.proofs.Replaying.{replay_more}
-use Rattle.account_ledger.specs.declared.counts.Counts.{Counts}
 use Rattle.root_ledgers.specs.declared.book.Book.{Book}
 use Rattle.root_ledgers.specs.declared.book.Standing.TheVariants.{Settled}
-use Rattle.account_ledger.specs.Messages.{StandFor}
-use Rattle.quota_units.specs.Sums.{AreSmall}
 use Rattle.root_ledgers.specs.Ledgers.{folded}
-use Rattle.root_ledgers.specs.Settling.{OnFiles, no_book, book_at, standings_of, folded_book, IsKept}
-use Rattle.account_ledger.specs.Opening.{opening_account, opening_of}
-use Rattle.account_ledger.specs.States.{usage_at}
-use Rattle.account_ledger.specs.Order.{Holds, InOrder}
-use Rattle.keeper.proofs.Changing.{changes_then}
-use Rattle.account_ledger.specs.Serving.{Leaves}
-use Rattle.account_ledger.proofs.Entering.{excused_still, excused_more, order_noted, served_more, of_every}
+use Rattle.root_ledgers.specs.Settling.{Kept, kept_of, no_book, book_at, standings_of, folded_book, with_folded, IsKept}
 use Rattle.root_ledgers.proofs.Kept.{kept_folded}
-use Rattle.account_ledger.proofs.Replying.{limits_some}
-use Rattle.account_ledger.proofs.Stating.{of_account}
+use Rattle.account_ledger.specs.Messages.{StandFor}
+use Rattle.account_ledger.specs.Stores.{usage_at}
+use Rattle.account_ledger.specs.Lives.{Acts, Live, Shows, Stands}
+use Rattle.account_ledger.proofs.Replying.{limits_none, limits_some}
+use Rattle.account_ledger.proofs.Showing.{after_told, ok_is_no_err}
 
 abbrev no_limits : LimitNumbers
 no_limits = record { octets = None; count = None }
 
--- a root's place is another's, or it is the same
-module _ (setup : Setup) (limits : List LimitNumbers) (books : List Book) (counts : Counts) (entries : ℕ) (account : Account) (files files' : Files)
-    (holds : Holds setup limits books counts entries account files) (root : ℕ) (new : LimitNumbers) (book : Book)
-    (inside : root < length setup.roots) (limits_each : length limits ≡ length setup.roots) (books_each : length books ≡ length setup.roots)
-    (settled : (book_at books root).standing ≡ Settled) (small : AreSmall (book_at books root).totals)
-    (book_is : book ≡ folded_book new (book_at books root).totals) (short : length (folded new (book_at books root).totals) < 5120)
-    (writes : Writes root (folded new (book_at books root).totals) files files') where
-  kept_here : IsKept (limits_at (set limits root new) root) (usage_at setup.roots root account) (ledger_at files' root) (ledger_bytes files' root) (book_at (set books root book) root)
-  kept_here =
-      let l : limits_at (set limits root new) root ≡ new = get_or-set_same limits root new no_limits (omega (arith, limits_each)) in
-      let b : book_at (set books root book) root ≡ book = get_or-set_same books root book no_book (omega (arith, books_each)) in
-      rw (l, b) (kept_folded new (usage_at setup.roots root account) (book_at books root).totals (ledger_at files' root) book (holds.kept root inside settled).totals
-      (omega (arith, small.octets)) (omega (arith, small.count)) book_is writes.1 short)
+-- a live account with other limits of a root
+abbrev pub with_limits : Live → Option Told → ℕ → ℕ → ℕ → LimitNumbers → Live
+with_limits l told faults lists root new = record l {
+  told = told;
+  faults = faults;
+  lists = lists;
+  limits = set l.limits root new;
+  books = set l.books root (folded_book new (book_at l.books root).totals);
+}
 
-  kept_there : (other : ℕ) → other ≢ root → other < length setup.roots → (book_at (set books root book) other).standing ≡ Settled
-      → IsKept (limits_at (set limits root new) other) (usage_at setup.roots other account) (ledger_at files' other) (ledger_bytes files' other) (book_at (set books root book) other)
-  kept_there other differs within is =
-      let l : limits_at (set limits root new) other ≡ limits_at limits other = get_or-set_other limits root other new no_limits differs in
-      let b : book_at (set books root book) other ≡ book_at books other = get_or-set_other books root other book no_book differs in
-      let stays : ledger_at files' other ≡ ledger_at files other = writes.0.others other differs in
-      let was : (book_at books other).standing ≡ Settled = rw b at is in
-      rw (l, b, stays) (holds.kept other within was)
+module _ (l : Live) (account : Account) (shows : Shows l account) (root : ℕ) (new : LimitNumbers) (inside : root < length l.roots) where
+  abbrev totals : Totals
+  totals = (book_at l.books root).totals
 
-  kept_relimited : (other : ℕ) → other < length setup.roots → (book_at (set books root book) other).standing ≡ Settled
-      → IsKept (limits_at (set limits root new) other) (usage_at setup.roots other account) (ledger_at files' other) (ledger_bytes files' other) (book_at (set books root book) other)
-  kept_relimited other within is = elim (cases_eq other root) [
-    | inl same ↦ rw same kept_here
-    | inr differs ↦ kept_there other differs within is
-  ]
+  module _ (files' : Files) (settled : (book_at l.books root).standing ≡ Settled) (short : length (folded new (book_at l.books root).totals) < 5120)
+      (writes : Writes root (folded new (book_at l.books root).totals) shows.told.files files') where
+    kept_here : IsKept (limits_at (set l.limits root new) root) (usage_at l.roots root account) (ledger_at files' root) (ledger_bytes files' root) (book_at (set l.books root (folded_book new totals)) root)
+    kept_here =
+        let a : limits_at (set l.limits root new) root ≡ new = get_or-set_same l.limits root new no_limits (omega (arith, shows.whole.limits)) in
+        let b : book_at (set l.books root (folded_book new totals)) root ≡ folded_book new totals = get_or-set_same l.books root (folded_book new totals) no_book (omega (arith, shows.whole.kept.each, shows.whole.limits)) in
+        let small : AreSmall totals = shows.whole.kept.small root no_book (omega (arith, shows.whole.kept.each, shows.whole.limits)) in
+        rw (a, b) (kept_folded new (usage_at l.roots root account) totals (ledger_at files' root) (folded_book new totals) (shows.stands.kept root inside settled).totals
+        (omega (arith, small.octets)) (omega (arith, small.count)) refl writes.1 short)
 
-  pub holds_relimited : Holds setup (set limits root new) (set books root book) counts (entries + 1) (record account { limits = set account.limits root new }) files'
-  holds_relimited = record {
-    limits_are = ap (λ ls. set ls root new) holds.limits_are;
-    mailboxes_are = holds.mailboxes_are;
-    deliveries_are = holds.deliveries_are;
-    generation_is = holds.generation_is;
-    stand = subst (λ rows. StandFor rows account) (sym writes.0.rows) holds.stand;
-    bounded = omega (arith, holds.bounded);
-    few = omega (arith, holds.few);
-    apart = holds.apart;
-    fresh = holds.fresh;
-    kept = kept_relimited;
-  }
+    kept_there : (other : ℕ) → other ≢ root → other < length l.roots → (book_at (set l.books root (folded_book new totals)) other).standing ≡ Settled
+        → IsKept (limits_at (set l.limits root new) other) (usage_at l.roots other account) (ledger_at files' other) (ledger_bytes files' other) (book_at (set l.books root (folded_book new totals)) other)
+    kept_there other differs within is =
+        let a : limits_at (set l.limits root new) other ≡ limits_at l.limits other = get_or-set_other l.limits root other new no_limits differs in
+        let b : book_at (set l.books root (folded_book new totals)) other ≡ book_at l.books other = get_or-set_other l.books root other (folded_book new totals) no_book differs in
+        let stays : ledger_at files' other ≡ ledger_at shows.told.files other = writes.0.others other differs in
+        let was : (book_at l.books other).standing ≡ Settled = rw b at is in
+        rw (a, b, stays) (shows.stands.kept other within was)
 
-module _ (then now now' : Option Told) (faults_then faults faults' : ℕ) (setup : Setup) (epoch : ℕ) (limits : List LimitNumbers) (books : List Book) (counts : Counts) (history : List Entry)
-    (caller : ℕ) (name : List ℕ) (new : LimitNumbers) (order : InOrder then now faults_then faults setup epoch limits books counts history)
-    (room : length history < setup.journal) where
-  -- the store failed, and nothing changed
-  pub order_unlimited : Changes (OnFiles (λ files files'. files' ≡ files)) now now' → faults ≤ faults' → Rose faults faults'
-      → InOrder then now' faults_then faults' setup epoch limits books counts (history ++ entry_of caller (SetLimits name new) true ∷ [])
-  order_unlimited same later rose =
-      order_noted then now' faults_then faults' setup epoch limits books counts history caller (SetLimits name new) true
-      (record {
-        sound = order.sound;
-        within = order.within;
-        served = order.served;
-        excused = omega (arith, order.excused);
-        delivered = order.delivered;
-        changed = order.changed;
-        limits_each = order.limits_each;
-        books_each = order.books_each;
-        small = order.small;
-        held = changes_then _ _ _
-            (λ x y z held e. subst (λ f. Holds setup limits books counts (length history) (replay setup.roots (opening_account setup epoch x.files) history) f) (sym e) held)
-            then now now' order.held same;
-      })
-      room tt (of_every (Leaves setup.roots (SetLimits name new) true) (λ account. refl) _) (excused_more faults_then faults faults' history caller (SetLimits name new) order.excused rose)
+    pub stands_relimited : (told' : Option Told) (faults' lists' : ℕ) → Stands (with_limits l told' faults' lists' root new) (record account { limits = set account.limits root new }) files'
+    stands_relimited told' faults' lists' = record {
+      limits_are = ap (λ ls. set ls root new) shows.stands.limits_are;
+      mailboxes_are = shows.stands.mailboxes_are;
+      epoch_is = shows.stands.epoch_is;
+      deliveries_are = shows.stands.deliveries_are;
+      generation_is = shows.stands.generation_is;
+      stand = subst (λ rows. StandFor rows account) (sym (rows_same shows.told.files files' writes.0.same)) shows.stands.stand;
+      kept = λ other within is. elim (cases_eq other root) [
+        | inl same ↦ rw same kept_here
+        | inr differs ↦ kept_there other differs within is
+      ];
+    }
 
-  module _ (root : ℕ) (totals : Totals) (place : place_of setup.roots name ≡ Some root) (inside : root < length setup.roots)
-      (settled : (book_at books root).standing ≡ Settled) (read : totals ≡ (book_at books root).totals) where
-    after_limits : (account : Account) → step setup.roots account (SetLimits name new) ≡ record account { limits = set account.limits root new }
-    after_limits account = ap (λ o. let a : Account = record account { limits = limits_after o new account.limits } in a) place
+  pub limits_replied : (name : List ℕ) → place_of l.roots name ≡ Some root → (book_at l.books root).standing ≡ Settled
+      → LimitsSet (record { root = root; octets = totals.octets; count = totals.count; limits = new }) ≡ reply_of l.roots account (SetLimits name new)
+  limits_replied name place settled =
+      limits_some account name l.roots (ap length shows.stands.limits_are ∙ shows.whole.limits) root totals new place inside (shows.stands.kept root inside settled).totals
 
-    -- the limits are set, and the ledger is the folded text of them and of the usage
-    pub order_relimited : (book : Book) → book ≡ folded_book new totals → length (folded new totals) < 5120 → Changes (OnFiles (Writes root (folded new totals))) now now' → faults ≤ faults'
-        → InOrder then now' faults_then faults' setup epoch (set limits root new) (set books root book) counts (history ++ entry_of caller (SetLimits name new) false ∷ [])
-    order_relimited book book_is short writes later =
-        let entry = entry_of caller (SetLimits name new) false in
-        let long = length_push history entry in
-        let small = order.small root no_book (omega (arith, order.books_each)) in
-        record {
-          sound = order.sound;
-          within = omega (arith, long);
-          served = served_more history entry order.served tt;
-          excused = excused_still faults_then faults faults' history caller (SetLimits name new) order.excused later;
-          delivered = omega (arith, long, order.delivered);
-          changed = omega (arith, long, order.changed);
-          limits_each = length-set limits root new ∙ order.limits_each;
-          books_each = length-set books root book ∙ order.books_each;
-          small = All-set (λ (b : Book). AreSmall b.totals) books root book (subst (λ (t : Totals). AreSmall t) (sym read ∙ sym (ap (λ (b : Book). b.totals) book_is)) small) order.small;
-          held = changes_then _ _ _
-              (λ x y z held w.
-              let before = replay setup.roots (opening_account setup epoch x.files) history in
-              subst (λ n. Holds setup (set limits root new) (set books root book) counts n (replay setup.roots (opening_account setup epoch x.files) (history ++ entry ∷ [])) z.files) (sym long)
-              (subst (λ a. Holds setup (set limits root new) (set books root book) counts (length history + 1) a z.files)
-              (sym (replay_more setup.roots (opening_account setup epoch x.files) history entry ∙ after_limits before))
-              (holds_relimited setup limits books counts (length history) before y.files z.files held root new book inside order.limits_each order.books_each settled small
-              (book_is ∙ ap (folded_book new) read) (subst (λ t. length (folded new t) < 5120) read short) (subst (λ t. Writes root (folded new t) y.files z.files) read w))))
-              then now now' order.held writes;
-        }
+pub after_limits : (roots : List RootSpec) (account : Account) (name : List ℕ) (root : ℕ) (new : LimitNumbers) → place_of roots name ≡ Some root → step roots account (SetLimits name new) ≡ record account { limits = set account.limits root new }
+after_limits roots account name root new place = ap (λ o. let a : Account = record account { limits = limits_after o new account.limits } in a) place
 
-    pub limits_replied : IfSome (option_map (λ opening. replay setup.roots opening history) (opening_of setup epoch then))
-        (λ account. LimitsSet (record { root = root; octets = totals.octets; count = totals.count; limits = new }) ≡ reply_of setup.roots account (SetLimits name new))
-    limits_replied =
-        of_account then now faults_then faults setup epoch limits books counts history
-        (λ account. LimitsSet (record { root = root; octets = totals.octets; count = totals.count; limits = new }) ≡ reply_of setup.roots account (SetLimits name new))
-        (λ account files holds. limits_some account name setup.roots (ap length holds.limits_are ∙ order.limits_each) root totals new place inside (read ∙ (holds.kept root inside settled).totals)) order
+-- no root has the name
+pub no_root_replied : (l : Live) (account : Account) (shows : Shows l account) (name : List ℕ) (new : LimitNumbers) → place_of l.roots name ≡ None → NoRoot ≡ reply_of l.roots account (SetLimits name new)
+no_root_replied l account shows name new nowhere = limits_none account name l.roots (ap length shows.stands.limits_are ∙ shows.whole.limits) new nowhere
+
+pub no_root_leaves : (roots : List RootSpec) (account : Account) (name : List ℕ) (new : LimitNumbers) → place_of roots name ≡ None → step roots account (SetLimits name new) ≡ account
+no_root_leaves roots account name new nowhere = ap (λ o. let a : Account = record account { limits = limits_after o new account.limits } in a) nowhere
 
 -- the standings stay where a settled root is settled again
 pub standings_stay : (books : List Book) (root : ℕ) (book : Book) → book.standing ≡ Settled → (book_at books root).standing ≡ Settled → standings_of (set books root book) ≡ standings_of books
 standings_stay books root book is settled = map-set_same (λ (b : Book). b.standing) books root book no_book (is ∙ sym settled)
+
+-- the limits of a settled root are set, and its ledger is the folded text of them and its usage
+module _ (l : Live) (name : List ℕ) (root : ℕ) (new : LimitNumbers) (place : place_of l.roots name ≡ Some root) (inside : root < length l.roots) (settled : (book_at l.books root).standing ≡ Settled) (told' : Option Told) (faults' lists' : ℕ) where
+  abbrev own : Totals
+  own = (book_at l.books root).totals
+
+  acts_here : (failed : Type 0) → ¬ failed → Changes (OnFiles (Writes root (folded new own))) l.told told' → length (folded new own) < 5120 → HasCause failed l.faults faults'
+      → Due failed l.faults l.append_faults faults' l.append_faults l.told told'
+      → Acts (SetLimits name new) [] (Ok (LimitsSet (record { root = root; octets = own.octets; count = own.count; limits = new }))) l (with_limits l told' faults' lists' root new)
+  acts_here failed not files short cause due = record {
+    keeps = record { roots = refl; mailboxes = refl; epoch = refl };
+    reply = λ account shows. limits_replied l account shows root new inside name place settled;
+    form = record { kind = refl; names = inside };
+    there = refl;
+    writes = record { standings = standings_stay l.books root (folded_book new own) refl settled; files = files; faults = cause.kept not; appends = refl };
+    rows = changes_weaken {X = Told} _ _ (λ (x y : Told) w. rows_same x.files y.files w.0.same) l.told told' files;
+    stands = λ account shows. after_told (OnFiles (Writes root (folded new own))) l.told told' shows.told
+        (λ told. Stands (with_limits l told' faults' lists' root new) (step l.roots account (SetLimits name new)) told.files) shows.is_told files
+        (λ y w. subst (λ (a : Account). Stands (with_limits l told' faults' lists' root new) a y.files) (sym (after_limits l.roots account name root new place))
+        (stands_relimited l account shows root new inside y.files settled short w told' faults' lists'));
+    counts = (omega arith, omega arith);
+    later = record { faults = cause.later; appends = omega arith };
+    cause = λ e. absurd (cc);
+    due = spends_not failed _ _ _ _ _ (λ e. absurd (ok_is_no_err e)) due;
+    never_full = λ limit e. absurd (cc);
+  }
+
+  pub acts_limited : (failed : Type 0) → ¬ failed → (totals : Totals) → totals ≡ (book_at l.books root).totals → (kept : Kept) → kept ≡ with_folded (kept_of l.limits l.books) root new totals
+      → (appends' : ℕ) → appends' ≡ l.append_faults → Changes (OnFiles (Writes root (folded new totals))) l.told told' → length (folded new totals) < 5120 → HasCause failed l.faults faults'
+      → Due failed l.faults l.append_faults faults' appends' l.told told'
+      → Acts (SetLimits name new) [] (Ok (LimitsSet (record { root = root; octets = totals.octets; count = totals.count; limits = new }))) l
+      (record l { told = told'; faults = faults'; append_faults = appends'; lists = lists'; limits = kept.limits; books = kept.books })
+  acts_limited failed not totals is kept folds appends' stay =
+      rw (folds, stay, is) (acts_here failed not)

@@ -1,40 +1,28 @@
 -- A move to another mailbox: what it is answered, and what it makes of the account.
-use Rattle.std.proofs.Common.{◌≡◌, ◌≢◌, ℕ, ◌+◌, Bool, true, false, not, cond, ◌&&◌, List, length, bytes_eq, Option, Some, None, refl, sym, ap, ◌∙◌, subst, arith}
-use Rattle.std.specs.Prelude.{IfSome}
-use Rattle.std.specs.Option.{option_map}
-use Rattle.quota_units.specs.Limiting.{LimitNumbers}
+use Rattle.std.proofs.Common.{◌≡◌, ℕ, ◌+◌, Bool, true, false, cond, List, bytes_eq, Some, None, is_some, refl, sym, ap, ◌∙◌, arith}
+use Rattle.std.proofs.lemmas.Slice.Eq.{bytes_eq-Decides}
 use Rattle.quota_units.specs.declared.resource.Resource.{Resource}
-use Rattle.std.proofs.lemmas.Bool.{false≢true}
-use Rattle.quota_roots.specs.Governing.{gains_at, governs_at}
 use Rattle.quota_roots.specs.declared.root.RootSpec.{RootSpec}
-use Rattle.quota_roots.specs.declared.setup.Setup.{Setup}
-use Rattle.keeper.specs.Files.{Files, listed, has_row}
-use Rattle.keeper.specs.Calls.{Told, Changes}
+use Rattle.keeper.specs.Files.{listed, has_row}
 use Rattle.keeper.specs.declared.rows.FileRow.{FileRow}
 use Rattle.account_core.specs.declared.calls.Call.TheVariants.{Move}
-use Rattle.account_core.specs.declared.calls.Entry.{Entry}
-use Rattle.account_core.specs.declared.calls.Reply.TheVariants.{NoMailbox, NoMessage, Over, Moved}
+use Rattle.account_core.specs.declared.calls.Reply.{Reply}
+use Rattle.account_core.specs.declared.calls.Reply.TheVariants.{NoMailbox, NoMessage, NameTaken, Over, Moved}
 use Rattle.account_core.specs.Account.{Account, Message}
-use Rattle.account_core.specs.Delivering.{delivered_base}
-use Rattle.account_core.specs.History.{replay}
 use Rattle.account_core.specs.Legality.{MayMove}
-use Rattle.account_core.specs.Messages.{is_message, named_message, how_many, changed, with_mailbox}
-use Rattle.account_core.specs.Machine.{has_mailbox, over_of, over_or, gaining, move_reply, moving_reply, placing_reply, moved_after, step}
-use Rattle.account_core.proofs.MessageSums.{named_base, none_named}
+use Rattle.account_core.specs.Messages.{named_message, changed, with_mailbox}
+use Rattle.account_core.specs.Machine.{has_mailbox, over_of, over_or, gaining, move_reply, moving_reply, placing_reply, moved_after, reply_of, step}
+use Rattle.account_core.proofs.MessageSums.{none_named}
 use Rattle.account_core.proofs.Moving.{move_is}
-use Rattle.account_ledger.specs.declared.counts.Counts.{Counts}
-use Rattle.root_ledgers.specs.declared.book.Book.{Book}
 use Rattle.account_ledger.specs.Messages.{message_in}
 use Rattle.account_ledger.specs.NamedFiles.{IsThere, file_named}
-use Rattle.account_ledger.specs.Opening.{opening_of, opening_account}
-use Rattle.account_ledger.specs.Order.{Holds, InOrder}
-use Rattle.account_ledger.specs.Serving.{RenamesFile}
-use Rattle.root_ledgers.specs.Settling.{OnFiles}
+use Rattle.account_ledger.specs.Lives.{Live, Shows}
 use Rattle.account_ledger.proofs.Weighing.{is_mailbox_of}
 use Rattle.account_ledger.proofs.NamedFiles.{file_has_base}
 use Rattle.account_ledger.proofs.Shifting.{Moves}
-use Rattle.account_ledger.proofs.Found.{of_files, none_there, changed_shifted, renamed_same}
-use Rattle.account_ledger.proofs.Removing.{one_changed, octets_small, not_fresh}
+use Rattle.account_ledger.proofs.Found.{named_by, none_there, changed_shifted}
+use Rattle.account_ledger.proofs.Delivering.{there_in}
+use Rattle.account_ledger.proofs.Removing.{octets_small}
 
 -- answers, by what is there
 reply_there : (roots : List RootSpec) (account : Account) (from base to : List ℕ) → has_mailbox account from ≡ true → has_mailbox account to ≡ true
@@ -60,75 +48,81 @@ pub reply_moved : (roots : List RootSpec) (account : Account) (from base to : Li
     → over_of roots account (gaining roots from to) message.octets ≡ None → Moved ≡ move_reply roots account from base to
 reply_moved roots account from base to message may fits = sym (move_is roots account from base to message may ∙ ap (λ o. over_or o Moved) fits)
 
--- no root governs a mailbox and does not
-both_ways : (b : Bool) (P : Type 0) → (b && not b) ≡ true → P
-both_ways true P e = absurd (false≢true e)
-both_ways false P e = absurd (false≢true e)
+-- the source or the target is not there
+pub no_source : (roots : List RootSpec) (account : Account) (from base to : List ℕ) → has_mailbox account from ≡ false → NoMailbox ≡ reply_of roots account (Move from base to)
+no_source roots account from base to none =
+    sym (ap (λ b. cond b (cond (has_mailbox account to) (moving_reply roots account from base to (named_message from base account.messages)) NoMailbox) NoMailbox) none)
 
-pub nothing_gained : (roots : List RootSpec) (from to : List ℕ) (P : ℕ → Type 0) → from ≡ to → (root : ℕ) → gains_at roots root from to ≡ true → P root
-nothing_gained roots from to P same root gained =
-    both_ways (governs_at roots root to) (P root) (ap (λ m. governs_at roots root to && not (governs_at roots root m)) (sym same) ∙ gained)
+pub no_target : (roots : List RootSpec) (account : Account) (from base to : List ℕ) → has_mailbox account from ≡ true → has_mailbox account to ≡ false → NoMailbox ≡ reply_of roots account (Move from base to)
+no_target roots account from base to source none =
+    sym (ap (λ b. cond b (cond (has_mailbox account to) (moving_reply roots account from base to (named_message from base account.messages)) NoMailbox) NoMailbox) source
+    ∙ ap (λ b. cond b (moving_reply roots account from base to (named_message from base account.messages)) NoMailbox) none)
 
--- a move within a mailbox renames nothing
-pub same_box_rows : (from base to : List ℕ) (file : FileRow) (told : Option Told) → bytes_eq from to ≡ true → from ≡ to → IfSome told (λ t. Some file ≡ file_named base (listed from t.files.rows))
-    → Changes (OnFiles (λ files files'. RenamesFile from base to (λ name. name) files.rows files'.rows)) told told
-same_box_rows from base to file None same is found = tt
-same_box_rows from base to file (Some t) same is found = (file, sym found, sym (renamed_same from file.name to file.name t.files.rows is refl))
+-- a reply other than Moved leaves the account, and so does a move within a mailbox
+pub refused_leaves : (roots : List RootSpec) (account : Account) (from base to : List ℕ) (given : Reply) → given ≡ reply_of roots account (Move from base to)
+    → moved_after account from base to given ≡ account → step roots account (Move from base to) ≡ account
+refused_leaves roots account from base to given is leaves = ap (moved_after account from base to) (sym is) ∙ leaves
 
-module _ (then now : Option Told) (faults_then faults : ℕ) (setup : Setup) (epoch : ℕ) (limits : List LimitNumbers) (books : List Book) (counts : Counts) (history : List Entry) (from base to : List ℕ)
-    (order : InOrder then now faults_then faults setup epoch limits books counts history) (target : is_mailbox_of setup.mailboxes to ≡ true) (apart : bytes_eq from to ≡ false)
-    (file : FileRow) (found : IfSome now (λ t. Some file ≡ file_named base (listed from t.files.rows)))
-    (may : IfSome (option_map (λ opening. replay setup.roots opening history) (opening_of setup epoch then)) (λ account. MayMove account from base to (message_in from file))) where
-  abbrev message : Message
-  message = message_in from file
+pub within_leaves : (account : Account) (from base to : List ℕ) → bytes_eq from to ≡ true → moved_after account from base to Moved ≡ account
+within_leaves account from base to same =
+    ap (λ b. cond b account (record account { messages = changed from base (with_mailbox to) account.messages; generation = account.generation + 1 })) same
 
-  -- the file's name is free in the target
-  pub target_free : IfSome now (λ t. has_row to file.name t.files.rows ≡ false)
-  target_free =
-      of_files then now faults_then faults setup epoch limits books counts history (λ account. MayMove account from base to message) (λ t. Some file ≡ file_named base (listed from t.files.rows)) (λ t. has_row to file.name t.files.rows ≡ false)
-      (λ account t holds may is. none_there setup limits books counts (length history) account t.files to file.name base holds order.sound.mailboxes.different target (file_has_base from base file t.files.rows (sym is))
-      ((none_named to base account.messages).1 may.free)) order may found
+module _ (l : Live) (account : Account) (shows : Shows l account) (from base to : List ℕ) (source : is_mailbox_of l.mailboxes from ≡ true) (target : is_mailbox_of l.mailboxes to ≡ true) where
+  pub missing_moved : None ≡ file_named base (listed from shows.told.files.rows) → NoMessage ≡ reply_of l.roots account (Move from base to)
+  missing_moved none =
+      reply_missing l.roots account from base to (sym (there_in l account shows from source)) (sym (there_in l account shows to target)) (named_by l account shows from base None source none)
 
-  carried : (account : Account) (files : Files) → Holds setup limits books counts (length history) account files → MayMove account from base to message → over_of setup.roots account (gaining setup.roots from to) message.octets ≡ None
-      → Moves setup (Some message) (Some (with_mailbox to message)) message.octets counts (one_changed counts) account (step setup.roots account (Move from base to))
-  carried account files holds can fits =
-      let small = octets_small from file in
-      let base_is : message.base ≡ base = named_base from base message account.messages can.there in
-      let zero : how_many to message.base account.messages ≡ 0 = ap (λ b. how_many to b account.messages) base_is ∙ (none_named to base account.messages).1 can.free in
-      let other : ◌≡◌ {A = ℕ} (cond (is_message to message.base message) 1 0) 0 = ap (λ b. cond (b && bytes_eq message.base message.base) 1 0) apart in
-      let is : step setup.roots account (Move from base to) ≡ record account { messages = changed from base (with_mailbox to) account.messages; generation = account.generation + 1 } =
-      ap (moved_after account from base to) (sym (reply_moved setup.roots account from base to message can fits))
-      ∙ ap (λ b. cond b account (record account { messages = changed from base (with_mailbox to) account.messages; generation = account.generation + 1 })) apart in
-      rw is (record {
-        limits = refl;
-        mailboxes = refl;
-        epoch = refl;
-        deliveries_are = holds.deliveries_are;
-        generation_is = ap (λ n. n + 1) holds.generation_is;
-        later = omega arith;
-        shifted = changed_shifted from base (with_mailbox to) message account.messages can.there;
-        has = refl;
-        had = refl;
-        small = small;
-        grows = omega arith;
-        free = λ m e. subst (λ (x : Message). how_many x.mailbox x.base account.messages ≡ cond (is_message x.mailbox x.base message) 1 0) (one_message e) (zero ∙ sym other);
-        other = λ m e number later below. subst (λ (x : Message). x.base ≢ delivered_base account.epoch number) (one_message e)
-            (not_fresh setup limits books counts (length history) account files from base message holds can.source can.there small number later below);
-      })
-    where
-      one_message : {x y : Message} → Some x ≡ Some y → x ≡ y
-      one_message e = cc
+  module _ (file : FileRow) (found : Some file ≡ file_named base (listed from shows.told.files.rows)) where
+    abbrev message : Message
+    message = message_in from file
 
-  pub moves_carried : IfSome (option_map (λ opening. replay setup.roots opening history) (opening_of setup epoch then)) (λ account. over_of setup.roots account (gaining setup.roots from to) message.octets ≡ None)
-      → IfSome (option_map (λ opening. replay setup.roots opening history) (opening_of setup epoch then))
-      (λ account. Moves setup (Some message) (Some (with_mailbox to message)) message.octets counts (one_changed counts) account (step setup.roots account (Move from base to)))
-  moves_carried fits = by then now order.held may fits
-    where
-      by : (t n : Option Told) → Changes (λ x y. Holds setup limits books counts (length history) (replay setup.roots (opening_account setup epoch x.files) history) y.files) t n
-          → IfSome (option_map (λ opening. replay setup.roots opening history) (opening_of setup epoch t)) (λ account. MayMove account from base to message)
-          → IfSome (option_map (λ opening. replay setup.roots opening history) (opening_of setup epoch t)) (λ account. over_of setup.roots account (gaining setup.roots from to) message.octets ≡ None)
-          → IfSome (option_map (λ opening. replay setup.roots opening history) (opening_of setup epoch t))
-          (λ account. Moves setup (Some message) (Some (with_mailbox to message)) message.octets counts (one_changed counts) account (step setup.roots account (Move from base to)))
-      by None n held may fits = tt
-      by (Some t) None held may fits = absurd held
-      by (Some t) (Some n) held may fits = carried (replay setup.roots (opening_account setup epoch t.files) history) n.files held may fits
+    pub is_there : IsThere from base to message account
+    is_there = record { source = there_in l account shows from source; target = there_in l account shows to target; there = named_by l account shows from base (Some file) source found }
+
+    pub within_replied : bytes_eq from to ≡ true → Moved ≡ reply_of l.roots account (Move from base to)
+    within_replied same = reply_same l.roots account from base to message is_there same
+
+    pub taken_replied : (other : FileRow) → bytes_eq from to ≡ false → Some other ≡ file_named base (listed to shows.told.files.rows) → NameTaken ≡ reply_of l.roots account (Move from base to)
+    taken_replied other apart taken =
+        sym (reply_there l.roots account from base to is_there.source is_there.target ∙ ap (moving_reply l.roots account from base to) is_there.there
+        ∙ ap (λ b. cond b Moved (placing_reply l.roots account from base to message)) apart
+        ∙ ap (λ o. cond (is_some o) NameTaken (over_or (over_of l.roots account (gaining l.roots from to) message.octets) Moved)) (named_by l account shows to base (Some other) target taken))
+
+    module _ (free : None ≡ file_named base (listed to shows.told.files.rows)) (apart : bytes_eq from to ≡ false) where
+      pub may : MayMove account from base to message
+      may = record {
+        source = is_there.source;
+        target = is_there.target;
+        there = is_there.there;
+        apart = λ same. not_both (bytes_eq from to) apart ((bytes_eq-Decides from to).1 same);
+        free = named_by l account shows to base None target free;
+      }
+        where
+          not_both : (b : Bool) → b ≡ false → b ≡ true → ⊥
+          not_both true e f = cc
+          not_both false e f = cc
+
+      -- the file's name is free in the target
+      pub target_free : has_row to file.name shows.told.files.rows ≡ false
+      target_free =
+          none_there l account shows to file.name base target (file_has_base from base file shows.told.files.rows (sym found))
+          ((none_named to base account.messages).1 may.free)
+
+      pub moves_moved : over_of l.roots account (gaining l.roots from to) message.octets ≡ None
+          → Moves (Some message) (Some (with_mailbox to message)) message.octets l.deliveries (l.generation + 1) account (step l.roots account (Move from base to))
+      moves_moved fits =
+          let is : step l.roots account (Move from base to) ≡ record account { messages = changed from base (with_mailbox to) account.messages; generation = account.generation + 1 } =
+          ap (moved_after account from base to) (sym (reply_moved l.roots account from base to message may fits))
+          ∙ ap (λ b. cond b account (record account { messages = changed from base (with_mailbox to) account.messages; generation = account.generation + 1 })) apart in
+          rw is (record {
+            limits = refl;
+            mailboxes = refl;
+            epoch = refl;
+            deliveries_are = shows.stands.deliveries_are;
+            generation_is = ap (λ n. n + 1) shows.stands.generation_is;
+            shifted = changed_shifted from base (with_mailbox to) message account.messages is_there.there;
+            has = refl;
+            had = refl;
+            small = octets_small from file;
+            grows = omega arith;
+          })

@@ -1,6 +1,6 @@
 -- An account that was just opened is in order.
 use Rattle.std.proofs.Common.{◌≡◌, ◌⊎◌, ℕ, ◌+◌, ◌*◌, ◌≤◌, ◌-◌, Bool, true, false, not, cond, ◌&&◌, ◌||◌, nat_lt, nat_eq, List, [], ◌∷◌, ◌++◌, length, take, map, find, codes, Option, Some, None, refl, sym, ap, ◌∙◌, subst, inl, inr, arith, sum_by, bytes_eq}
-use Rattle.std.specs.List.{list_any, starts_with, ends_with, All}
+use Rattle.std.specs.List.{list_any, starts_with, ends_with}
 use Rattle.std.specs.Cmp.Lexicographic.{pointwise}
 use Rattle.std.specs.Fmt.{decimal}
 use Rattle.std.specs.Option.{option_map, option_or}
@@ -19,7 +19,6 @@ use Rattle.message_names.specs.Sizes.{size_or, size_named}
 use Rattle.message_names.specs.Parts.{unique_of}
 use Rattle.account_core.specs.Account.{Message}
 use Rattle.account_core.specs.Delivering.{delivered_base}
-use Rattle.account_ledger.specs.declared.counts.Counts.{Counts}
 use Rattle.root_ledgers.specs.declared.book.Book.{Book}
 use Rattle.root_ledgers.specs.declared.book.Standing.TheVariants.{Settled, Doubt}
 use Rattle.account_ledger.specs.Messages.{message_in, messages_of, messages_in, is_message, how_many}
@@ -28,9 +27,10 @@ use Rattle.account_ledger.specs.Opening.{opening_account}
 use Rattle.account_opening.specs.Limits.{opening_limits}
 use Rattle.account_opening.specs.Bases.{listings, how_many_files, base_in, times_in, double_in, first_double, is_of_epoch, used_in, first_used}
 use Rattle.account_opening.specs.Admitting.{CanOpen}
-use Rattle.quota_units.specs.Sums.{AreSmall}
 use Rattle.keeper.specs.Calls.{Told, Changes}
-use Rattle.account_ledger.specs.Order.{Holds, InOrder}
+use Rattle.account_core.specs.Orderly.{IsOrderly}
+use Rattle.account_ledger.specs.Lives.{Live, Stands}
+use Rattle.account_ledger.specs.States.{InOrder}
 use Rattle.keeper.proofs.Changing.{changes_weaken}
 use Rattle.root_ledgers.proofs.Sums.{same_sums, sum_map, sum_flat_map, sum_none, sum_ones}
 
@@ -194,40 +194,58 @@ none_used epoch number mailbox (m ∷ mailboxes) rows none =
     neither true = refl
     neither false = refl
 
-abbrev pub none_counted : Counts
-none_counted = record { deliveries = 0; generation = 0 }
+-- the account that files make which may be opened is orderly
+orderly_opened : (setup : Setup) (epoch : ℕ) (files : Files) → IsSound setup → CanOpen setup epoch files → IsOrderly 0 (opening_account setup epoch files)
+orderly_opened setup epoch files sound can = record {
+  octets = let a = small_messages setup.mailboxes files.rows in let b = can.few in omega arith;
+  count = let a = few_messages setup.mailboxes files.rows in let b = can.few in omega arith;
+  apart = λ mailbox base. subst (λ n. n ≤ 1) (sym (how_many_in mailbox base setup.mailboxes files.rows)) (one_at_most mailbox base setup.mailboxes files.rows sound.mailboxes.different can.apart);
+  unused = λ number later small mailbox. how_many_in mailbox (delivered_base epoch number) setup.mailboxes files.rows ∙ none_used epoch number mailbox setup.mailboxes files.rows can.unused;
+  deliveries = omega arith;
+  generation = omega arith;
+}
 
-pub holds_opened : (setup : Setup) (epoch : ℕ) (limits : List LimitNumbers) (books : List Book) (files : Files) → IsSound setup → limits ≡ opening_limits files setup.limits
-    → ((root : ℕ) → (book_at books root).standing ≡ Doubt) → CanOpen setup epoch files
-    → Holds setup limits books none_counted 0 (opening_account setup epoch files) files
-holds_opened setup epoch limits books files sound told doubt can = record {
-  limits_are = sym told;
+-- a live account that was just opened
+abbrev pub fresh_live : Option Told → (faults appends lists : ℕ) → Setup → ℕ → List LimitNumbers → List Book → Live
+fresh_live told faults appends lists setup epoch limits books = record {
+  told = told;
+  faults = faults;
+  append_faults = appends;
+  lists = lists;
+  roots = setup.roots;
+  mailboxes = setup.mailboxes;
+  epoch = epoch;
+  limits = limits;
+  books = books;
+  deliveries = 0;
+  generation = 0;
+}
+
+stands_opened : (told : Option Told) (faults appends lists : ℕ) (setup : Setup) (epoch : ℕ) (limits : List LimitNumbers) (books : List Book) (files : Files) → limits ≡ opening_limits files setup.limits
+    → ((root : ℕ) → (book_at books root).standing ≡ Doubt) → Stands (fresh_live told faults appends lists setup epoch limits books) (opening_account setup epoch files) files
+stands_opened told faults appends lists setup epoch limits books files are doubt = record {
+  limits_are = sym are;
   mailboxes_are = refl;
+  epoch_is = refl;
   deliveries_are = refl;
   generation_is = refl;
   stand = λ weight. refl;
-  bounded = let a = small_messages setup.mailboxes files.rows in let b = can.few in omega arith;
-  few = let a = few_messages setup.mailboxes files.rows in let b = can.few in omega arith;
-  apart = λ mailbox base. subst (λ n. n ≤ 1) (sym (how_many_in mailbox base setup.mailboxes files.rows)) (one_at_most mailbox base setup.mailboxes files.rows sound.mailboxes.different can.apart);
-  fresh = λ number later small mailbox. how_many_in mailbox (delivered_base epoch number) setup.mailboxes files.rows ∙ none_used epoch number mailbox setup.mailboxes files.rows can.unused;
   kept = λ root inside settled. absurd (let e : Doubt ≡ Settled = sym (doubt root) ∙ settled in cc);
 }
 
-pub order_opened : (then now : Option Told) (faults_then faults : ℕ) (setup : Setup) (epoch : ℕ) (limits : List LimitNumbers) (books : List Book) → IsSound setup → faults_then ≤ faults
-    → length limits ≡ length setup.roots → length books ≡ length setup.roots → ((root : ℕ) → (book_at books root).standing ≡ Doubt) → All (λ (book : Book). AreSmall book.totals) books
+pub order_opened : (then now : Option Told) (first_faults faults appends lists : ℕ) (setup : Setup) (epoch : ℕ) (limits : List LimitNumbers) (books : List Book) → IsSound setup → first_faults ≤ faults
+    → ((root : ℕ) → (book_at books root).standing ≡ Doubt)
     → Changes (λ x y. (limits ≡ opening_limits x.files setup.limits) × (y.files ≡ x.files) × CanOpen setup epoch x.files) then now
-    → InOrder then now faults_then faults setup epoch limits books none_counted []
-order_opened then now faults_then faults setup epoch limits books sound later each kept doubt small told = record {
+    → InOrder then first_faults setup setup.journal (fresh_live now faults appends lists setup epoch limits books) []
+order_opened then now first_faults faults appends lists setup epoch limits books sound later doubt told = record {
   sound = sound;
-  within = omega arith;
-  served = tt;
-  excused = omega arith;
+  journal_is = refl;
+  roots_are = refl;
+  legal = record { within = omega arith; served = tt; excused = omega arith };
   delivered = omega arith;
   changed = omega arith;
-  limits_each = each;
-  books_each = kept;
-  small = small;
-  held = changes_weaken _ _
-      (λ x y f. subst (λ fs. Holds setup limits books none_counted 0 (opening_account setup epoch x.files) fs) (sym f.1) (holds_opened setup epoch limits books x.files sound f.0 doubt f.2))
-      then now told;
+  held = changes_weaken {X = Told} _ _ (λ (x y : Told) f. record {
+    orderly = orderly_opened setup epoch x.files sound f.2;
+    stands = subst (Stands (fresh_live now faults appends lists setup epoch limits books) (opening_account setup epoch x.files)) (sym f.1) (stands_opened now faults appends lists setup epoch limits books x.files f.0 doubt);
+  }) then now told;
 }

@@ -1,68 +1,42 @@
 -- Questions on mailboxes: what a listing tells, and what is replied.
-use Rattle.std.proofs.Common.{◌≡◌, ◌<◌, ◌≤◌, ◌^◌, ℕ, Bool, true, false, cond, List, [], length, sum_by, bytes_eq, Option, Some, None, sym, ap, ◌∙◌, subst, arith}
-use Rattle.std.specs.Prelude.{Result, Ok, Err, IfOk, IfSome, Vec}
+use Rattle.std.proofs.Common.{◌≡◌, ◌<◌, ◌≤◌, ◌^◌, ℕ, Bool, true, false, cond, List, [], length, map, sum_by, bytes_eq, Some, sym, ap, ◌∙◌, subst, arith}
 use Rattle.std.specs.List.{slice_get}
-use Rattle.std.specs.Option.{option_map}
-use Rattle.std.proofs.lemmas.Option.{slice_get-get_or}
+use Rattle.std.proofs.lemmas.Option.{slice_get-get_or, slice_get_past}
 use Rattle.std.proofs.lemmas.List.Sums.{sum_by-le-sum_by}
-use Rattle.quota_units.specs.Limiting.{LimitNumbers}
+use Rattle.quota_units.specs.Causes.{next_count}
+use Rattle.quota_units.specs.Sums.{cut, cut_totals}
 use Rattle.quota_units.specs.declared.totals.Totals.{Totals}
-use Rattle.quota_roots.specs.declared.setup.Setup.{Setup}
-use Rattle.keeper.specs.Files.{Files, listed}
-use Rattle.keeper.specs.Calls.{Told, Changes, Lists}
+use Rattle.quota_roots.specs.Governing.{governing}
+use Rattle.keeper.specs.Files.{listed}
 use Rattle.keeper.specs.declared.rows.FileRow.{FileRow}
+use Rattle.account_core.specs.declared.calls.Call.TheVariants.{Status as StatusCall, ScanBegin, ScanPart}
+use Rattle.account_core.specs.declared.calls.Reply.TheVariants.{Begun, NoMailbox, NoPart, Status, Part}
 use Rattle.account_core.specs.Account.{Account, Message}
+use Rattle.account_core.specs.Machine.{has_mailbox, reply_of}
 use Rattle.account_core.specs.Messages.{sum_in}
 use Rattle.account_core.specs.Scanning.{status_of, status_reply, part_of, part_reply}
-use Rattle.account_core.specs.Refusals.{has_mailbox}
-use Rattle.account_core.specs.History.{replay}
-use Rattle.account_core.specs.declared.calls.Entry.{Entry}
-use Rattle.account_core.specs.declared.calls.Reply.TheVariants.{NoMailbox, Status, Part}
-use Rattle.account_ledger.specs.declared.counts.Counts.{Counts}
-use Rattle.root_ledgers.specs.declared.book.Book.{Book}
+use Rattle.root_ledgers.specs.Scans.{sizes_of}
+use Rattle.root_ledgers.proofs.Sums.{sum_ones}
 use Rattle.account_ledger.specs.declared.counting.MailboxSums.{MailboxSums}
 use Rattle.account_ledger.specs.Counting.{TellMailbox, mailbox_at, sums_of, unseen_of, deleted_of, deleted_size_of}
 use Rattle.account_ledger.specs.Messages.{message_in}
-use Rattle.account_ledger.specs.Opening.{opening_account, opening_of}
-use Rattle.account_ledger.specs.Order.{Holds, InOrder}
-use Rattle.quota_units.specs.Sums.{cut, cut_totals}
-use Rattle.root_ledgers.specs.Scans.{sizes_of}
-use Rattle.account_ledger.proofs.CountingLemmas.{listed_tell}
-use Rattle.account_ledger.proofs.Replying.{of_both}
-use Rattle.root_ledgers.proofs.Sums.{sum_ones}
+use Rattle.account_ledger.specs.Lives.{Live, Looks, Shows}
+use Rattle.account_ledger.proofs.CountingLemmas.{listed_tell, mailbox_there}
+use Rattle.account_ledger.proofs.Delivering.{there_in}
+use Rattle.account_ledger.proofs.Showing.{bounded_of}
 use Rattle.account_ledger.proofs.Weighing.{is_mailbox_of}
 
 -- the files of a mailbox of the account tell its messages
-holds_tell : (setup : Setup) (limits : List LimitNumbers) (books : List Book) (counts : Counts) (entries : ℕ) (account : Account) (files : Files) (mailbox : List ℕ) (found : List FileRow)
-    → Holds setup limits books counts entries account files → entries ≤ 524288 → is_mailbox_of setup.mailboxes mailbox ≡ true → found ≡ listed mailbox files.rows
-    → ((weight : Message → ℕ) → sum_by (λ file. weight (message_in mailbox file)) (listed mailbox files.rows) ≡ sum_in mailbox weight account.messages)
+pub files_tell : (l : Live) (account : Account) (shows : Shows l account) (mailbox : List ℕ) (found : List FileRow) → is_mailbox_of l.mailboxes mailbox ≡ true → found ≡ listed mailbox shows.told.files.rows
     → TellMailbox mailbox found account
-holds_tell setup limits books counts entries account files mailbox found holds most there is tell =
-    let bounded = holds.bounded in
-    let few = holds.few in
+files_tell l account shows mailbox found there is =
+    let bounded = bounded_of l account shows in
     record {
-      sums = λ weight. ap (λ fs. sum_by (λ (f : FileRow). weight (message_in mailbox f)) fs) is ∙ tell weight;
-      octets = omega (arith, most);
-      count = omega (arith, most);
+      sums = λ weight. ap (λ fs. sum_by (λ (f : FileRow). weight (message_in mailbox f)) fs) is
+          ∙ listed_tell l.mailboxes shows.told.files.rows mailbox there weight account shows.stands.mailboxes_are shows.whole.mailboxes.different shows.stands.stand;
+      octets = omega (arith, bounded.0);
+      count = omega (arith, bounded.1);
     }
-
-module _ (then now now' : Option Told) (faults_then faults : ℕ) (setup : Setup) (epoch : ℕ) (limits : List LimitNumbers) (books : List Book) (counts : Counts) (history : List Entry) (mailbox : List ℕ)
-    (order : InOrder then now faults_then faults setup epoch limits books counts history) (there : is_mailbox_of setup.mailboxes mailbox ≡ true) where
-  pub files_tell : (A E : Type 0) (result : Result (Vec FileRow A) E) → Changes (Lists mailbox result) now now'
-      → IfOk result (λ found. IfSome (option_map (λ opening. replay setup.roots opening history) (opening_of setup epoch then)) (TellMailbox mailbox found.items))
-  files_tell A E (Err e) lists = tt
-  files_tell A E (Ok found) lists = by then now now' order.held lists
-    where
-      by : (t n n' : Option Told) → Changes (λ x y. Holds setup limits books counts (length history) (replay setup.roots (opening_account setup epoch x.files) history) y.files) t n
-          → Changes (λ (x y : Told). (found.items ≡ listed mailbox x.files.rows) × (y.files ≡ x.files)) n n'
-          → IfSome (option_map (λ opening. replay setup.roots opening history) (opening_of setup epoch t)) (TellMailbox mailbox found.items)
-      by None n n' held lists = tt
-      by (Some t) None n' held lists = absurd held
-      by (Some t) (Some n) None held lists = absurd lists
-      by (Some t) (Some n) (Some n') held lists =
-          let account = replay setup.roots (opening_account setup epoch t.files) history in
-          holds_tell setup limits books counts (length history) account n.files mailbox found.items held (omega (arith, order.within, order.sound.most_room)) there lists.0
-          (λ weight. listed_tell setup.mailboxes n.files.rows mailbox there weight account held.mailboxes_are order.sound.mailboxes.different held.stand)
 
 -- a sum over the messages of a mailbox, where each weighs at most as much
 below : (mailbox : List ℕ) (weight most : Message → ℕ) (messages : List Message) → ((m : Message) → weight m ≤ most m) → sum_in mailbox weight messages ≤ sum_by most messages
@@ -141,23 +115,32 @@ module _ (mailbox : List ℕ) (files : List FileRow) (account : Account) (tell :
   part_is : (generation : ℕ) → generation ≡ account.generation → Part generation (cut (sizes_of files)) (cut (length files)) ≡ part_of account (Some mailbox)
   part_is generation same = same_part same octets_are count_is
 
-pub status_replied : (mailbox : List ℕ) (files : List FileRow) (sums : MailboxSums) (o : Option Account) → sums ≡ sums_of files → IfSome o (λ account. true ≡ has_mailbox account mailbox) → IfSome o (TellMailbox mailbox files)
-    → IfSome o (λ account. Status sums.all.count sums.unseen sums.deleted.count sums.deleted.octets sums.all.octets ≡ status_reply account mailbox)
-status_replied mailbox files sums o is there tell =
-    of_both (λ account. true ≡ has_mailbox account mailbox) (TellMailbox mailbox files)
-    (λ account. Status sums.all.count sums.unseen sums.deleted.count sums.deleted.octets sums.all.octets ≡ status_reply account mailbox)
-    (λ account here told. subst (λ (x : MailboxSums). Status x.all.count x.unseen x.deleted.count x.deleted.octets x.all.octets ≡ status_reply account mailbox) (sym is) (status_is mailbox files account told here)) o there tell
+pub status_replied : (l : Live) (account : Account) (shows : Shows l account) (mailbox : List ℕ) (files : List FileRow) (sums : MailboxSums) → is_mailbox_of l.mailboxes mailbox ≡ true → files ≡ listed mailbox shows.told.files.rows → sums ≡ sums_of files
+    → Status sums.all.count sums.unseen sums.deleted.count sums.deleted.octets sums.all.octets ≡ reply_of l.roots account (StatusCall mailbox)
+status_replied l account shows mailbox files sums there listing is =
+    subst (λ (x : MailboxSums). Status x.all.count x.unseen x.deleted.count x.deleted.octets x.all.octets ≡ status_reply account mailbox) (sym is)
+    (status_is mailbox files account (files_tell l account shows mailbox files there listing) (sym (there_in l account shows mailbox there)))
 
-pub part_replied : (mailboxes : List (List ℕ)) (index generation : ℕ) (files : List FileRow) (totals : Totals) (o : Option Account) → index < length mailboxes → totals ≡ cut_totals (sizes_of files) (length files)
-    → IfSome o (λ account. generation ≡ account.generation) → IfSome o (λ account. account.mailboxes ≡ mailboxes) → IfSome o (TellMailbox (mailbox_at mailboxes index) files)
-    → IfSome o (λ account. Part generation totals.octets totals.count ≡ part_reply account index)
-part_replied mailboxes index generation files totals o inside is same boxes tell =
-    of_both (λ account. (generation ≡ account.generation) × (account.mailboxes ≡ mailboxes)) (TellMailbox (mailbox_at mailboxes index) files) (λ account. Part generation totals.octets totals.count ≡ part_reply account index)
-    (λ account gm told.
-    of_totals account told gm.0
-    ∙ sym (ap (λ ms. part_of account (slice_get ms index)) gm.1 ∙ ap (part_of account) (slice_get-get_or mailboxes index [] inside))) o
-    (of_both (λ account. generation ≡ account.generation) (λ account. account.mailboxes ≡ mailboxes) (λ account. (generation ≡ account.generation) × (account.mailboxes ≡ mailboxes)) (λ account g m. (g, m)) o same boxes) tell
-  where
-    of_totals : (account : Account) → TellMailbox (mailbox_at mailboxes index) files account → generation ≡ account.generation
-        → Part generation totals.octets totals.count ≡ part_of account (Some (mailbox_at mailboxes index))
-    of_totals account told same = subst (λ (x : Totals). Part generation x.octets x.count ≡ part_of account (Some (mailbox_at mailboxes index))) (sym is) (part_is (mailbox_at mailboxes index) files account told generation same)
+pub status_nowhere : (l : Live) (account : Account) (shows : Shows l account) (mailbox : List ℕ) → is_mailbox_of l.mailboxes mailbox ≡ false → NoMailbox ≡ reply_of l.roots account (StatusCall mailbox)
+status_nowhere l account shows mailbox none =
+    sym (ap (λ b. cond b (status_of mailbox account.messages) NoMailbox) (ap (λ boxes. is_mailbox_of boxes mailbox) shows.stands.mailboxes_are ∙ none))
+
+pub part_replied : (l : Live) (account : Account) (shows : Shows l account) (index : ℕ) (files : List FileRow) (totals : Totals) → index < length l.mailboxes → files ≡ listed (mailbox_at l.mailboxes index) shows.told.files.rows
+    → totals ≡ cut_totals (sizes_of files) (length files) → Part l.generation totals.octets totals.count ≡ reply_of l.roots account (ScanPart index)
+part_replied l account shows index files totals inside listing is =
+    subst (λ (x : Totals). Part l.generation x.octets x.count ≡ part_reply account index) (sym is)
+    (part_is (mailbox_at l.mailboxes index) files account (files_tell l account shows (mailbox_at l.mailboxes index) files (mailbox_there l.mailboxes index inside) listing) l.generation (sym shows.stands.generation_is)
+    ∙ sym (ap (λ ms. part_of account (slice_get ms index)) shows.stands.mailboxes_are ∙ ap (part_of account) (slice_get-get_or l.mailboxes index [] inside)))
+
+pub no_part : (l : Live) (account : Account) (shows : Shows l account) (index : ℕ) → length l.mailboxes ≤ index → NoPart ≡ reply_of l.roots account (ScanPart index)
+no_part l account shows index past =
+    sym (ap (λ ms. part_of account (slice_get ms index)) shows.stands.mailboxes_are ∙ ap (part_of account) (slice_get_past l.mailboxes index past))
+
+-- the begin of a scan
+pub begun_replied : (l : Live) (account : Account) (shows : Shows l account) (sets : List (List ℕ)) → sets ≡ map (governing l.roots) l.mailboxes → Begun l.generation sets ≡ reply_of l.roots account ScanBegin
+begun_replied l account shows sets is =
+    ap (λ n. Begun n sets) (sym shows.stands.generation_is) ∙ ap (λ ss. Begun account.generation ss) (is ∙ ap (λ ms. map (governing l.roots) ms) (sym shows.stands.mailboxes_are))
+
+-- a listing is counted
+pub lists_next : (failed : Type 0) (l m : Live) → Looks failed l m → m.lists ≡ next_count l.lists
+lists_next failed l m looks = ap (λ (x : Live). x.lists) looks.same

@@ -25,7 +25,7 @@ use Rattle.admission.specs.declared.verdict.Verdict.{Verdict}
 use Rattle.admission.specs.declared.verdict.Verdict.TheVariants.{Fits, Over}
 use Rattle.account_ledger.specs.Rows.{IsVerdict, totals_of}
 use Rattle.root_ledgers.specs.declared.book.Book.{Book}
-use Rattle.account_ledger.specs.States.{usage_at}
+use Rattle.account_ledger.specs.Stores.{usage_at}
 
 abbrev pub no_root : RootSpec
 no_root = record { name = []; prefix = None }

@@ -1,33 +1,31 @@
 -- A message goes, a message comes, or one takes the place of another: what is kept stands for the account still.
-use Rattle.std.proofs.Common.{◌≡◌, ◌≢◌, ℕ, ◌+◌, ◌*◌, ◌<◌, ◌≤◌, ◌^◌, Bool, true, false, cond, ◌&&◌, List, length, get_or, sum_by, bytes_eq, Option, Some, None, refl, sym, ap, ◌∙◌, subst, arith}
+use Rattle.std.proofs.Common.{◌≡◌, ℕ, ◌+◌, ◌<◌, ◌≤◌, ◌^◌, Bool, true, false, cond, List, length, get_or, sum_by, Option, Some, None, refl, sym, ap, ◌∙◌, subst, arith}
 use Rattle.std.specs.Option.{option_map}
-use Rattle.std.proofs.lemmas.Slice.Eq.{bytes_eq-Decides}
 use Rattle.std.proofs.lemmas.List.Sums.{sum_by-le-sum_by}
 use Rattle.quota_units.specs.Limiting.{LimitNumbers}
 use Rattle.quota_roots.specs.declared.root.RootSpec.{RootSpec}
-use Rattle.quota_roots.specs.declared.setup.Setup.{Setup}
-use Rattle.quota_roots.specs.Setups.{are_different, AreMailboxes}
+use Rattle.quota_roots.specs.Setups.{are_different}
 use Rattle.quota_roots.specs.Governing.{governs, governs_at}
 use Rattle.quota_roots.proofs.GoverningLemmas.{governs_at_get_or}
 use Rattle.keeper.specs.Files.{Files, Row, ledger_at, ledger_bytes}
+use Rattle.keeper.specs.Calls.{Told}
+use Rattle.keeper.proofs.LedgerLemmas.{rows_same}
 use Rattle.admission.specs.Fitting.{limits_at}
 use Rattle.account_core.specs.Account.{Account, Message, usage}
-use Rattle.account_core.specs.Delivering.{delivered_base}
 use Rattle.account_core.proofs.Admitting.{totals_at-usages}
-use Rattle.account_ledger.specs.declared.counts.Counts.{Counts}
 use Rattle.root_ledgers.specs.declared.book.Book.{Book}
 use Rattle.root_ledgers.specs.declared.book.Standing.{Standing}
 use Rattle.root_ledgers.specs.declared.book.Standing.TheVariants.{Settled, Doubt}
 use Rattle.root_ledgers.specs.declared.change.Change.{Change}
-use Rattle.account_ledger.specs.Messages.{messages_in, StandFor, is_message, how_many}
 use Rattle.root_ledgers.specs.Settling.{book_at, IsKept}
-use Rattle.account_ledger.specs.States.{usage_at}
-use Rattle.account_ledger.specs.Order.{Holds}
 use Rattle.root_ledgers.specs.Lines.{governs_in, change_by, change_at, changed_book, ChangedLedger, BookBy, LedgerBy, BookLined, LedgerLined, BooksLined, LedgersLined}
 use Rattle.root_ledgers.proofs.Sums.{sum_ones}
-use Rattle.account_ledger.proofs.Weighing.{weigh, rows_weigh}
-use Rattle.account_ledger.proofs.UsageLemmas.{no_root, at_most}
 use Rattle.root_ledgers.proofs.Posting.{UsageBy, kept_lined}
+use Rattle.account_ledger.specs.Messages.{messages_in, StandFor}
+use Rattle.account_ledger.specs.Stores.{usage_at}
+use Rattle.account_ledger.specs.Lives.{Live, Shows, Stands}
+use Rattle.account_ledger.proofs.Weighing.{weigh, rows_weigh}
+use Rattle.account_ledger.proofs.UsageLemmas.{IsBounded, no_root, at_most}
 
 abbrev pub weight_of : (Message → ℕ) → Option Message → ℕ
 weight_of weight None = 0
@@ -102,63 +100,23 @@ module _ (roots : List RootSpec) (root : ℕ) (inside : root < length roots) whe
       (omega arith) (omega arith))
 
   -- and no usage is cut
-  pub usage_small : (account : Account) (entries : ℕ) → entries ≤ 524288 → sum_by (λ (m : Message). m.octets) account.messages ≤ 2 ^ 60 + 67108864 * entries → length account.messages ≤ 1048576 + entries
-      → ((usage_at roots root account).octets < 2 ^ 62) × ((usage_at roots root account).count < 2 ^ 62)
-  usage_small account entries most bounded few =
+  pub usage_small : (account : Account) → IsBounded account → ((usage_at roots root account).octets < 2 ^ 62) × ((usage_at roots root account).count < 2 ^ 62)
+  usage_small account bounded =
       let a : (usage spec account).octets ≤ sum_by (λ (m : Message). m.octets) account.messages = sum_by-le-sum_by octets_by (λ (m : Message). m.octets) account.messages (λ m. at_most (governs spec m.mailbox) m.octets) in
       let b : (usage spec account).count ≤ sum_by (λ (m : Message). 1) account.messages = sum_by-le-sum_by count_by (λ (m : Message). 1) account.messages (λ m. at_most (governs spec m.mailbox) 1) in
       let c = sum_ones account.messages in
-      rw (totals_at-usages roots account root no_root inside) (omega arith, omega arith)
+      rw (totals_at-usages roots account root no_root inside) (omega (arith, bounded.0), omega (arith, bounded.1))
 
--- No base stands twice in a mailbox, where the coming message's stands there only as that of the leaving one.
-pub apart_shifted : (leaving coming : Option Message) (messages messages' : List Message) → Shifted leaving coming messages messages'
-    → ((m : Message) → coming ≡ Some m → how_many m.mailbox m.base messages ≡ weight_of (λ x. cond (is_message m.mailbox m.base x) 1 0) leaving)
-    → ((mailbox base : List ℕ) → how_many mailbox base messages ≤ 1) → (mailbox base : List ℕ) → how_many mailbox base messages' ≤ 1
-apart_shifted leaving None messages messages' shifted free apart mailbox base =
-    let s = shifted.sums (λ x. cond (is_message mailbox base x) 1 0) in
-    let a = apart mailbox base in
-    omega arith
-apart_shifted leaving (Some m) messages messages' shifted free apart mailbox base =
-    let s = shifted.sums (λ x. cond (is_message mailbox base x) 1 0) in
-    let a = apart mailbox base in
-    step (bytes_eq m.mailbox mailbox) (bytes_eq m.base base) refl refl s
-  where
-    step : (b c : Bool) → bytes_eq m.mailbox mailbox ≡ b → bytes_eq m.base base ≡ c
-        → how_many mailbox base messages' + weight_of (λ x. cond (is_message mailbox base x) 1 0) leaving ≡ how_many mailbox base messages + cond (b && c) 1 0 → how_many mailbox base messages' ≤ 1
-    step false c is si e = let a = apart mailbox base in omega arith
-    step true false is si e = let a = apart mailbox base in omega arith
-    step true true is si e =
-        let f = free m refl in
-        let box : m.mailbox ≡ mailbox = (bytes_eq-Decides m.mailbox mailbox).0 is in
-        let name : m.base ≡ base = (bytes_eq-Decides m.base base).0 si in
-        let g : how_many mailbox base messages ≡ weight_of (λ x. cond (is_message mailbox base x) 1 0) leaving = rw (box, name) at f in
-        omega arith
-
--- A base that no message has is had by none still, where the coming message has another.
-pub none_shifted : (leaving coming : Option Message) (messages messages' : List Message) (base : List ℕ) → Shifted leaving coming messages messages'
-    → ((m : Message) → coming ≡ Some m → m.base ≢ base) → (mailbox : List ℕ) → how_many mailbox base messages ≡ 0 → how_many mailbox base messages' ≡ 0
-none_shifted leaving None messages messages' base shifted other mailbox none =
-    let s = shifted.sums (λ x. cond (is_message mailbox base x) 1 0) in
-    omega arith
-none_shifted leaving (Some m) messages messages' base shifted other mailbox none =
-    step (bytes_eq m.mailbox mailbox) (bytes_eq m.base base) refl refl (shifted.sums (λ x. cond (is_message mailbox base x) 1 0))
-  where
-    step : (b c : Bool) → bytes_eq m.mailbox mailbox ≡ b → bytes_eq m.base base ≡ c
-        → how_many mailbox base messages' + weight_of (λ x. cond (is_message mailbox base x) 1 0) leaving ≡ how_many mailbox base messages + cond (b && c) 1 0 → how_many mailbox base messages' ≡ 0
-    step false c is si e = omega arith
-    step true false is si e = omega arith
-    step true true is si e = absurd (other m refl ((bytes_eq-Decides m.base base).0 si))
-
-module _ (setup : Setup) (limits : List LimitNumbers) (books books' : List Book) (changes : ℕ → Option Change) (octets : ℕ) (account account' : Account) (files files1 files' : Files) (small : octets < 1000000000000000000) where
-  kept_one : (change : Option Change) (root : ℕ) → root < length setup.roots
-      → ((book_at books root).standing ≡ Settled → IsKept (limits_at limits root) (usage_at setup.roots root account) (ledger_at files root) (ledger_bytes files root) (book_at books root))
-      → UsageBy change octets (usage_at setup.roots root account) (usage_at setup.roots root account')
-      → ((usage_at setup.roots root account').octets < 2 ^ 62) × ((usage_at setup.roots root account').count < 2 ^ 62)
+module _ (roots : List RootSpec) (limits : List LimitNumbers) (books books' : List Book) (changes : ℕ → Option Change) (octets : ℕ) (account account' : Account) (files files1 files' : Files) (small : octets < 1000000000000000000) where
+  kept_one : (change : Option Change) (root : ℕ) → root < length roots
+      → ((book_at books root).standing ≡ Settled → IsKept (limits_at limits root) (usage_at roots root account) (ledger_at files root) (ledger_bytes files root) (book_at books root))
+      → UsageBy change octets (usage_at roots root account) (usage_at roots root account')
+      → ((usage_at roots root account').octets < 2 ^ 62) × ((usage_at roots root account').count < 2 ^ 62)
       → ledger_at files1 root ≡ ledger_at files root
       → BookLined change octets (limits_at limits root) (book_at books root) (book_at books' root)
       → LedgerLined change octets (limits_at limits root) (book_at books root) (book_at books' root).standing (ledger_at files1 root) (ledger_at files' root)
       → (book_at books' root).standing ≡ Settled
-      → IsKept (limits_at limits root) (usage_at setup.roots root account') (ledger_at files' root) (ledger_bytes files' root) (book_at books' root)
+      → IsKept (limits_at limits root) (usage_at roots root account') (ledger_at files' root) (ledger_bytes files' root) (book_at books' root)
   kept_one None root inside kept moved bound same book ledger settled =
       let old = kept (sym (ap (λ (b : Book). b.standing) book) ∙ settled) in
       rw (book, ledger, same, moved) old
@@ -167,67 +125,79 @@ module _ (setup : Setup) (limits : List LimitNumbers) (books books' : List Book)
       by : (s : Standing) → (book_at books root).standing ≡ s
           → BookBy s change octets (limits_at limits root) (book_at books root) (book_at books' root)
           → LedgerBy s change octets (limits_at limits root) (book_at books root) (book_at books' root).standing (ledger_at files1 root) (ledger_at files' root)
-          → IsKept (limits_at limits root) (usage_at setup.roots root account') (ledger_at files' root) (ledger_bytes files' root) (book_at books' root)
+          → IsKept (limits_at limits root) (usage_at roots root account') (ledger_at files' root) (ledger_bytes files' root) (book_at books' root)
       by Doubt is book ledger = let e : Settled ≡ Doubt = sym settled ∙ ap (λ (b : Book). b.standing) book ∙ is in absurd (cc)
       by Settled is book ledger =
           let b : book_at books' root ≡ changed_book change octets (limits_at limits root) (book_at books root) Settled = book.0 ∙ ap (changed_book change octets (limits_at limits root) (book_at books root)) settled in
           let l : ChangedLedger change octets (limits_at limits root) (book_at books root) (ledger_at files root) Settled (ledger_at files' root) =
           subst (λ x. ChangedLedger change octets (limits_at limits root) (book_at books root) x Settled (ledger_at files' root)) same
           (subst (λ x. ChangedLedger change octets (limits_at limits root) (book_at books root) (ledger_at files1 root) x (ledger_at files' root)) settled ledger) in
-          kept_lined change octets (limits_at limits root) (usage_at setup.roots root account) (usage_at setup.roots root account') (ledger_at files root) (ledger_at files' root)
+          kept_lined change octets (limits_at limits root) (usage_at roots root account) (usage_at roots root account') (ledger_at files root) (ledger_at files' root)
           (book_at books root) (book_at books' root) small moved bound.0 bound.1 (kept is) b book.1 l
 
 -- What a call that moves a message, or brings or removes one, has to show of the account.
-pub record Moves (setup : Setup) (leaving coming : Option Message) (octets : ℕ) (counts counts' : Counts) (account account' : Account) : Type 0 where
+pub record Moves (leaving coming : Option Message) (octets deliveries' generation' : ℕ) (account account' : Account) : Type 0 where
   pub limits : account'.limits ≡ account.limits
   pub mailboxes : account'.mailboxes ≡ account.mailboxes
   pub epoch : account'.epoch ≡ account.epoch
-  pub deliveries_are : account'.deliveries ≡ counts'.deliveries
-  pub generation_is : account'.generation ≡ counts'.generation
-  pub later : counts.deliveries ≤ counts'.deliveries
+  pub deliveries_are : account'.deliveries ≡ deliveries'
+  pub generation_is : account'.generation ≡ generation'
   pub shifted : Shifted leaving coming account.messages account'.messages
   pub has : HasOctets octets leaving
   pub had : HasOctets octets coming
   pub small : octets < 1000000000000000000
   pub grows : weight_of (λ m. m.octets) coming ≤ weight_of (λ m. m.octets) leaving + 67108864
-  pub free : (m : Message) → coming ≡ Some m → how_many m.mailbox m.base account.messages ≡ weight_of (λ x. cond (is_message m.mailbox m.base x) 1 0) leaving
-  pub other : (m : Message) → coming ≡ Some m → (number : ℕ) → counts'.deliveries < number → number < 2 ^ 64 → m.base ≢ delivered_base account.epoch number
 
 one_at_most : (message : Option Message) → weight_of (λ m. 1) message ≤ 1
 one_at_most None = omega arith
 one_at_most (Some m) = omega arith
 
-pub holds_shifted : (setup : Setup) (leaving coming : Option Message) (octets : ℕ) (counts counts' : Counts) (entries : ℕ) (limits : List LimitNumbers) (books books' : List Book) (account account' : Account) (files files1 files' : Files)
-    → AreMailboxes setup.mailboxes → entries + 1 ≤ 524288 → Moves setup leaving coming octets counts counts' account account'
-    → RowsShifted account.mailboxes leaving coming files.rows files1.rows → ((root : ℕ) → ledger_at files1 root ≡ ledger_at files root)
-    → BooksLined (length setup.roots) (change_at setup.roots (box_of leaving) (box_of coming)) octets limits books books'
-    → LedgersLined (length setup.roots) (change_at setup.roots (box_of leaving) (box_of coming)) octets limits books books' files1 files'
-    → Holds setup limits books counts entries account files → Holds setup limits books' counts' (entries + 1) account' files'
-holds_shifted setup leaving coming octets counts counts' entries limits books books' account account' files files1 files' sound most moves rows same lined ledgers holds =
-    let changes = change_at setup.roots (box_of leaving) (box_of coming) in
-    let different : are_different account.mailboxes ≡ true = ap are_different holds.mailboxes_are ∙ sound.different in
+-- a live account with other books, files and counts
+abbrev pub with_lines : Live → Option Told → (faults appends lists : ℕ) → List Book → (deliveries generation : ℕ) → Live
+with_lines l told faults appends lists books deliveries generation =
+    record l { told = told; faults = faults; append_faults = appends; lists = lists; books = books; deliveries = deliveries; generation = generation }
+
+pub bounded_shifted : (l : Live) (leaving coming : Option Message) (octets deliveries' generation' : ℕ) (account account' : Account) → Shows l account → Moves leaving coming octets deliveries' generation' account account' → IsBounded account'
+bounded_shifted l leaving coming octets deliveries' generation' account account' shows moves =
     let o = moves.shifted.sums (λ m. m.octets) in
     let k = moves.shifted.sums (λ m. 1) in
     let g = moves.grows in
     let a = sum_ones account.messages in
     let b = sum_ones account'.messages in
     let c = one_at_most coming in
-    let bounded : sum_by (λ (m : Message). m.octets) account'.messages ≤ 2 ^ 60 + 67108864 * (entries + 1) = omega (arith, holds.bounded) in
-    let few : length account'.messages ≤ 1048576 + (entries + 1) = omega (arith, holds.few) in
+    let d = shows.orderly.octets in
+    let e = shows.orderly.count in
+    let f = shows.few in
+    (omega arith, omega arith)
+
+pub stands_shifted : (l : Live) (leaving coming : Option Message) (octets deliveries' generation' : ℕ) (account account' : Account) (shows : Shows l account) (told' : Option Told) (faults' appends' lists' : ℕ) (books' : List Book) (files1 files' : Files)
+    → Moves leaving coming octets deliveries' generation' account account'
+    → RowsShifted l.mailboxes leaving coming shows.told.files.rows files1.rows → ((root : ℕ) → ledger_at files1 root ≡ ledger_at shows.told.files root)
+    → BooksLined (length l.roots) (change_at l.roots (box_of leaving) (box_of coming)) octets l.limits l.books books'
+    → LedgersLined (length l.roots) (change_at l.roots (box_of leaving) (box_of coming)) octets l.limits l.books books' files1 files'
+    → Stands (with_lines l told' faults' appends' lists' books' deliveries' generation') account' files'
+stands_shifted l leaving coming octets deliveries' generation' account account' shows told' faults' appends' lists' books' files1 files' moves rows same lined ledgers =
+    let changes = change_at l.roots (box_of leaving) (box_of coming) in
+    let holds = shows.stands in
+    let different : are_different account.mailboxes ≡ true = ap are_different holds.mailboxes_are ∙ shows.whole.mailboxes.different in
+    let bounded = bounded_shifted l leaving coming octets deliveries' generation' account account' shows moves in
     record {
       limits_are = moves.limits ∙ holds.limits_are;
       mailboxes_are = moves.mailboxes ∙ holds.mailboxes_are;
+      epoch_is = moves.epoch ∙ holds.epoch_is;
       deliveries_are = moves.deliveries_are;
       generation_is = moves.generation_is;
-      stand = subst (λ rows. StandFor rows account') (sym ledgers.rows) (stand_shifted leaving coming account account' files.rows files1.rows different moves.mailboxes moves.shifted rows holds.stand);
-      bounded = bounded;
-      few = few;
-      apart = apart_shifted leaving coming account.messages account'.messages moves.shifted moves.free holds.apart;
-      fresh = λ number later below mailbox.
-          rw moves.epoch (none_shifted leaving coming account.messages account'.messages (delivered_base account.epoch number) moves.shifted (λ m is. moves.other m is number later below) mailbox (holds.fresh number (omega (arith, moves.later)) below mailbox));
+      stand = subst (λ rs. StandFor rs account') (sym (rows_same files1 files' ledgers.same))
+          (stand_shifted leaving coming account account' shows.told.files.rows files1.rows different moves.mailboxes moves.shifted
+          (subst (λ boxes. RowsShifted boxes leaving coming shows.told.files.rows files1.rows) (sym holds.mailboxes_are) rows) holds.stand);
       kept = λ root inside settled.
-          kept_one setup limits books books' changes octets account account' files files1 files' moves.small (changes root) root inside (λ s. holds.kept root inside s)
-          (usage_shifted setup.roots root inside leaving coming octets account account' moves.has moves.had moves.shifted)
-          (usage_small setup.roots root inside account' (entries + 1) most bounded few)
+          kept_one l.roots l.limits l.books books' changes octets account account' shows.told.files files1 files' moves.small (changes root) root inside (λ s. holds.kept root inside s)
+          (usage_shifted l.roots root inside leaving coming octets account account' moves.has moves.had moves.shifted)
+          (usage_small l.roots root inside account' bounded)
           (same root) (lined.done root inside) (ledgers.done root inside) settled;
     }
+
+-- the row of a message changes, and the ledgers stay
+pub record FilesShifted (mailboxes : List (List ℕ)) (leaving coming : Option Message) (files files1 : Files) : Type 0 where
+  pub rows : RowsShifted mailboxes leaving coming files.rows files1.rows
+  pub ledgers : (root : ℕ) → ledger_at files1 root ≡ ledger_at files root

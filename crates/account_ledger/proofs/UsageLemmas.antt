@@ -1,5 +1,5 @@
 -- A fresh scan gives the usage, where the files stand for the account.
-use Rattle.std.proofs.Common.{◌≡◌, ℕ, ◌+◌, ◌*◌, ◌^◌, ◌<◌, ◌≤◌, Bool, true, false, cond, List, [], length, get_or, sum_by, None, arith, refl, sym, ap, ◌∙◌}
+use Rattle.std.proofs.Common.{◌≡◌, ℕ, ◌^◌, ◌<◌, ◌≤◌, Bool, true, false, cond, List, [], length, get_or, sum_by, None, arith, refl, sym, ap, ◌∙◌}
 use Rattle.std.proofs.lemmas.List.Sums.{sum_by-le-sum_by}
 use Rattle.quota_roots.specs.declared.root.RootSpec.{RootSpec}
 use Rattle.quota_roots.specs.Governing.{governs, governs_at}
@@ -12,8 +12,7 @@ use Rattle.account_core.proofs.Admitting.{totals_at-usages}
 use Rattle.account_ledger.specs.Messages.{message_in, messages_of, messages_in, StandFor}
 use Rattle.quota_units.specs.Sums.{cut}
 use Rattle.root_ledgers.specs.Scans.{scan, scanned_octets, scanned_count, size_of_file}
-use Rattle.account_ledger.specs.States.{usage_at}
-use Rattle.account_ledger.specs.Order.{fresh_scan}
+use Rattle.account_ledger.specs.Stores.{fresh_scan, usage_at}
 use Rattle.root_ledgers.proofs.Sums.{same_sums, sum_map, sum_flat_map, sum_ones, sum_where}
 
 abbrev pub no_root : RootSpec
@@ -42,6 +41,10 @@ module _ (roots : List RootSpec) (root : ℕ) (inside : root < length roots) (ro
       ∙ same_sums (λ m. sum_by (λ (x : Message). cond (governs (get_or roots root no_root) x.mailbox) (weight x) 0) (messages_of rows m))
       (λ m. cond (governs_at roots root m) (sum_by size (listed m rows)) 0) mailboxes one_mailbox
 
+-- no sum over the messages comes near the cut
+abbrev pub IsBounded : Account → Type 0
+IsBounded account = (sum_by (λ (m : Message). m.octets) account.messages ≤ 2 ^ 61) × (length account.messages ≤ 2 ^ 61)
+
 module _ (roots : List RootSpec) (root : ℕ) (inside : root < length roots) (account : Account) (mailboxes : List (List ℕ)) (rows : List Row)
     (same : account.mailboxes ≡ mailboxes) (stand : StandFor rows account) where
   abbrev spec : RootSpec
@@ -65,9 +68,8 @@ module _ (roots : List RootSpec) (root : ℕ) (inside : root < length roots) (ac
   pub fresh_is_usage : fresh_scan roots root mailboxes rows ≡ usage_at roots root account
   fresh_is_usage = same_totals octets_are deliveries_are ∙ sym (totals_at-usages roots account root no_root inside)
 
-  pub scan_is_usage : (entries : ℕ) → entries ≤ 524288 → sum_by (λ (m : Message). m.octets) account.messages ≤ 2 ^ 60 + 67108864 * entries → length account.messages ≤ 1048576 + entries
-      → scan roots root mailboxes rows ≡ usage_at roots root account
-  scan_is_usage entries most bounded few =
+  pub scan_is_usage : IsBounded account → scan roots root mailboxes rows ≡ usage_at roots root account
+  scan_is_usage bounded =
       let o = octets_are in
       let k = deliveries_are in
       let a : (usage spec account).octets ≤ sum_by (λ (m : Message). m.octets) account.messages =
@@ -75,6 +77,6 @@ module _ (roots : List RootSpec) (root : ℕ) (inside : root < length roots) (ac
       let b : (usage spec account).count ≤ sum_by (λ (m : Message). 1) account.messages =
       sum_by-le-sum_by (λ (m : Message). cond (governs spec m.mailbox) 1 0) (λ (m : Message). 1) account.messages (λ m. at_most (governs spec m.mailbox) 1) in
       let c = sum_ones account.messages in
-      let e : cut (scanned_octets roots root mailboxes rows) ≡ (usage spec account).octets = omega arith in
-      let f : cut (scanned_count roots root mailboxes rows) ≡ (usage spec account).count = omega arith in
+      let e : cut (scanned_octets roots root mailboxes rows) ≡ (usage spec account).octets = omega (arith, bounded.0) in
+      let f : cut (scanned_count roots root mailboxes rows) ≡ (usage spec account).count = omega (arith, bounded.1) in
       same_totals e f ∙ sym (totals_at-usages roots account root no_root inside)

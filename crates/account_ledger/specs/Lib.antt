@@ -1,10 +1,13 @@
 pub mod Messages
 pub mod Opening
 pub mod NamedFiles
-pub mod States
 pub mod Rows
-pub mod Order
 pub mod Faults
-pub mod Serving
+pub mod Stores
+pub mod Settling
+pub mod Writing
+pub mod Filing
+pub mod Performing
+pub mod Lives
 pub mod Counting
-pub mod Questions
+pub mod States

@@ -5,6 +5,11 @@ use Rattle.account_core.specs.Machine.{has_mailbox}
 use Rattle.account_core.specs.Messages.{named_message}
 use Rattle.keeper.specs.declared.rows.FileRow.{FileRow}
 use Rattle.account_opening.specs.Bases.{base_in}
+use Rattle.quota_units.specs.declared.flags.Flags.{Flags}
+use Rattle.message_names.specs.Written.{written_name}
+use Rattle.message_names.specs.Messages.{message_of}
+use Rattle.message_names.specs.Sizes.{cut}
+use Rattle.account_core.specs.Delivering.{delivered_base}
 
 -- the first of the files of a mailbox that has this base
 abbrev pub file_named : List ℕ → List FileRow → Option FileRow
@@ -15,3 +20,9 @@ pub record IsThere (from base to : List ℕ) (message : Message) (account : Acco
   pub source : has_mailbox account from ≡ true
   pub target : has_mailbox account to ≡ true
   pub there : named_message from base account.messages ≡ Some message
+
+-- a file name of the delivery of this number, which reads back
+pub record IsDeliveryName (epoch number octets : ℕ) (flags : Flags) (name : List ℕ) : Type 0 where
+  pub written : name ≡ written_name (delivered_base epoch number) octets flags
+  pub reads : (length : ℕ) → message_of name length
+      ≡ record { base = delivered_base epoch number; octets = cut octets; flags = flags }

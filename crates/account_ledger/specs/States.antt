@@ -1,66 +1,94 @@
--- An account's state as clauses see it.
-use Rattle.std.specs.Prelude.{◌≡◌, ℕ, List, [], slice_index_or, Option}
+-- An account's state as clauses see it: its store, and the history that it stands for.
+use Rattle.std.specs.Prelude.{◌≡◌, ◌≤◌, ℕ, Bool, true, false, List, [], length, Option, Some, None, Result, Ok, Err}
 use Rattle.std.specs.Option.{option_map}
-use Rattle.quota_units.specs.declared.totals.Totals.{Totals}
-use Rattle.quota_roots.specs.declared.root.RootSpec.{RootSpec}
+use Rattle.quota_roots.specs.Setups.{IsSound}
 use Rattle.quota_roots.specs.declared.setup.Setup.{Setup}
-use Rattle.keeper.specs.Calls.{Told}
-use Rattle.admission.specs.Fitting.{totals_at}
+use Rattle.keeper.specs.Calls.{Told, Changes}
+use Rattle.account_core.specs.declared.calls.Call.{Call}
+use Rattle.account_core.specs.declared.calls.Reply.{Reply}
+use Rattle.account_core.specs.declared.calls.StepError.{StepError}
+use Rattle.account_core.specs.declared.calls.StepError.TheVariants.{Store as StoreError}
 use Rattle.account_core.specs.declared.calls.Entry.{Entry}
+use Rattle.account_core.specs.Logs.{Serves}
+use Rattle.account_ledger.specs.Performing.{Performs}
 use Rattle.account_core.specs.Account.{Account}
-use Rattle.account_core.specs.Machine.{usages}
 use Rattle.account_core.specs.History.{replay}
 use Rattle.account_core.specs.Histories.{Origin}
-use Rattle.account_ledger.specs.Opening.{opening_of}
-use Rattle.root_ledgers.specs.declared.book.Standing.{Standing}
+use Rattle.account_core.specs.Legality.{IsLegal}
+use Rattle.account_core.specs.Orderly.{IsOrderly}
 use Rattle.root_ledgers.specs.declared.book.Standing.TheVariants.{Doubt}
+use Rattle.account_ledger.specs.Opening.{opening_account, opening_of}
+use Rattle.account_ledger.specs.Stores.{Store, Agrees, standing_at}
+use Rattle.account_ledger.specs.Lives.{Live, Stands}
 
 pub record State : Type 0 where
-  -- what the keeper tells and counts
-  pub told : Option Told
-  pub faults : ℕ
-  pub append_faults : ℕ
-  pub lists : ℕ
-  -- what the account was opened with
-  pub setup : Setup
-  pub epoch : ℕ
-  -- the account that was opened, where the keeper told its files
-  pub opening : Option Account
-  -- the faults, other than those of appends, that the keeper had counted then
-  pub first_faults : ℕ
-  -- the entries since, and for how many entries memory is held
+  pub store : Store
+  -- what the account was opened with, and the entries since
+  pub origin : Origin
   pub history : List Entry
-  pub reserved : ℕ
-  -- how many deliveries were accepted since
-  pub delivered : ℕ
-  -- of each root; and the length of the ledger of each that is settled, in bytes
-  pub standings : List Standing
-  pub lengths : List ℕ
+  -- the faults, other than those of appends, that the keeper had counted at the opening
+  pub first_faults : ℕ
 
--- the account now, where the opening one is told
+-- the account now, if the opening one is told
 abbrev pub account_of : State → Option Account
-account_of s = option_map (λ opening. replay s.setup.roots opening s.history) s.opening
+account_of s = option_map (λ opening. replay s.origin.roots opening s.history) s.origin.account
 
--- where its history begins
-abbrev pub origin_of : State → Origin
-origin_of s = record { roots = s.setup.roots; journal = s.setup.journal; epoch = s.epoch; account = s.opening }
+-- this is the account
+abbrev pub IsAccount : State → Account → Type 0
+IsAccount s account = account_of s ≡ Some account
 
-abbrev pub standing_at : List Standing → ℕ → Standing
-standing_at standings root = slice_index_or standings root Doubt
+-- a fact about the account, if that is told
+abbrev pub OfAccount : State → (Account → Type 0) → Type 0
+OfAccount s P = (account : Account) → IsAccount s account → P account
 
-abbrev pub length_at : List ℕ → ℕ → ℕ
-length_at lengths root = slice_index_or lengths root 0
+-- what was opened stays
+pub record Opened (s s' : State) : Type 0 where
+  pub origin : s'.origin ≡ s.origin
+  pub first_faults : s'.first_faults ≡ s.first_faults
 
--- the usage of the root of this number
-abbrev pub usage_at : List RootSpec → ℕ → Account → Totals
-usage_at roots root account = totals_at (usages roots account) root
-
--- an account that was just opened, where the keeper told this and had counted so many faults
+-- an account that was just opened, when the keeper told this and had counted these faults
 pub record IsOpened (told : Option Told) (faults : ℕ) (setup : Setup) (epoch : ℕ) (s : State) : Type 0 where
-  pub setup_is : s.setup ≡ setup
-  pub epoch_is : s.epoch ≡ epoch
-  pub opening : s.opening ≡ opening_of setup epoch told
+  pub roots : s.origin.roots ≡ setup.roots
+  pub journal : s.origin.journal ≡ setup.journal
+  pub epoch_is : s.origin.epoch ≡ epoch
+  pub opening : s.origin.account ≡ opening_of setup epoch told
+  pub mailboxes : s.store.mailboxes ≡ setup.mailboxes
   pub history : s.history ≡ []
-  pub doubt : (root : ℕ) → standing_at s.standings root ≡ Doubt
+  pub doubt : (root : ℕ) → standing_at s.store.standings root ≡ Doubt
   pub first_faults : s.first_faults ≡ faults
-  pub faults_are : s.faults ≡ faults
+  pub faults_are : s.store.faults ≡ faults
+
+-- Between two calls the history is legal, and the files agree with the account.
+pub record IsInOrder (s : State) : Type 0 where
+  pub legal : IsLegal s.origin.journal s.first_faults s.store.faults s.history
+  pub agrees : Agrees (IsAccount s) s.store
+  pub roots : s.store.roots ≡ s.origin.roots
+  pub epoch : s.store.epoch ≡ s.origin.epoch
+
+-- whether the entry of a call that was answered so has fault; a call that found no memory has none
+abbrev pub fault_of : Result Reply StepError → Option Bool
+fault_of (Ok given) = Some false
+fault_of (Err StoreError) = Some true
+fault_of (Err fault) = None
+
+-- what a call does to a state that has room for its entry
+pub record ServesNext (caller : ℕ) (call : Call) (bytes : List ℕ) (result : Result Reply StepError) (s s' : State) : Type 0 where
+  pub opened : Opened s s'
+  pub serves : Serves s.origin caller s.history call result s'.history
+  pub performs : Performs (IsAccount s) call bytes result s.store s'.store
+
+-- the account that the files make is orderly, and what is kept stands for it after its history
+pub record Holds (setup : Setup) (live : Live) (history : List Entry) (then now : Told) : Type 0 where
+  pub orderly : IsOrderly 0 (opening_account setup live.epoch then.files)
+  pub stands : Stands live
+      (replay live.roots (opening_account setup live.epoch then.files) history) now.files
+
+-- what is kept is in order: by what the keeper told and had counted at the opening
+pub record InOrder (then : Option Told) (first_faults : ℕ) (setup : Setup) (journal : ℕ) (live : Live) (history : List Entry) : Type 0 where
+  pub sound : IsSound setup
+  pub journal_is : journal ≡ setup.journal
+  pub roots_are : live.roots ≡ setup.roots
+  pub legal : IsLegal journal first_faults live.faults history
+  pub delivered : live.deliveries ≤ length history
+  pub changed : live.generation ≤ length history
+  pub held : Changes (Holds setup live history) then live.told

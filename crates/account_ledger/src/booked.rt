@@ -1,13 +1,12 @@
 // What contracts see of an account: the history that it stands for, and its keeper.
 ghost use Rattle.std.specs.Prelude.{◌≡◌};
-ghost use Rattle.account_ledger.specs.States.{origin_of};
 
 use crate::AccountState;
 use account_core::Booked;
 use keeper::Keeper;
 
 impl<K: Keeper> Booked for AccountState<K> {
-    ghost origin = { λ state. origin_of state };
+    ghost origin = { λ state. state.origin };
 
     ghost history = { λ state. state.history };
 }
@@ -15,11 +14,11 @@ impl<K: Keeper> Booked for AccountState<K> {
 impl<K: Keeper> AccountState<K> {
     /// The keeper.
     pub fn keeper(&self) -> &K
-        ensures told { K.told result.now ≡ self.now.told }
-        ensures faults { K.faults result.now ≡ self.now.faults }
-        ensures append_faults { K.append_faults result.now ≡ self.now.append_faults }
-        ensures lists { K.lists result.now ≡ self.now.lists }
+        ensures told { K.told result.now ≡ self.now.store.told }
+        ensures faults { K.faults result.now ≡ self.now.store.faults }
+        ensures append_faults { K.append_faults result.now ≡ self.now.store.append_faults }
+        ensures lists { K.lists result.now ≡ self.now.store.lists }
     {
-        &self.keeper
+        &self.live.keeper
     }
 }

@@ -6,7 +6,7 @@ ghost use Rattle.account_core.specs.Machine.{over_or};
 ghost use Rattle.account_core.specs.declared.calls.Call.{Call};
 ghost use Rattle.account_ledger.specs.Faults.{step_error};
 ghost use Rattle.account_ledger.specs.Rows.{IsInside, IsVerdict};
-ghost use Rattle.account_ledger.specs.Serving.{misses};
+ghost use Rattle.account_ledger.specs.Writing.{misses};
 
 use account_core::{Reply, StepError};
 use admission::Verdict;

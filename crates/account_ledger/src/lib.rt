@@ -7,6 +7,7 @@ mod counts;
 mod deliver;
 mod fault;
 mod limits;
+mod live;
 mod marks;
 mod moves;
 mod named;
@@ -14,6 +15,7 @@ mod opening;
 mod questions;
 mod remove;
 mod rows;
+mod settling;
 mod state;
 
 pub use account_opening::OpenError;

@@ -1,205 +1,134 @@
-// A message moves to another mailbox: its file moves, roots that it leaves or comes under get its line, and the call is entered.
-ghost use Rattle.std.specs.Prelude.{◌+◌, ◌≡◌, ◌≢◌, ◌<◌, [], ℕ, true, false, Some, None, length, bytes_eq, IfOk, IfSome};
+// A message moves to another mailbox: its file moves, and roots that it leaves or comes under get its line.
+ghost use Rattle.std.specs.Prelude.{◌≡◌, ◌<◌, ◌^◌, [], true, false, None, Some, bytes_eq, IfSome};
 ghost use Rattle.std.specs.List.{list_any};
 ghost use Rattle.quota_roots.specs.Governing.{gaining};
-ghost use Rattle.keeper.specs.Calls.{Changes, Spends};
-ghost use Rattle.quota_units.specs.Causes.{Rose};
 ghost use Rattle.keeper.specs.Files.{listed};
-ghost use Rattle.account_core.specs.Machine.{over_of, reply_of};
-ghost use Rattle.account_core.specs.Forms.{HasForm};
-ghost use Rattle.account_core.specs.Legality.{MayMove};
+ghost use Rattle.account_core.specs.Account.{Account};
+ghost use Rattle.account_core.specs.Machine.{over_of};
+ghost use Rattle.account_core.specs.Messages.{named_message};
+ghost use Rattle.account_ledger.specs.Lives.{Acts, IsShown, Shows, Steps, store_of};
 ghost use Rattle.account_ledger.specs.Messages.{message_in};
-ghost use Rattle.account_ledger.specs.NamedFiles.{IsThere, file_named};
-ghost use Rattle.account_ledger.specs.Serving.{Enters, OfAccount, Opened, Serves, ServesRows, Spares, WritesBy, misses};
-ghost use Rattle.root_ledgers.specs.Settling.{OnFiles};
+ghost use Rattle.account_ledger.specs.Settling.{StayCalm};
+ghost use Rattle.account_ledger.specs.NamedFiles.{file_named};
 
-use crate::AccountState;
 use crate::fault::step_error;
+use crate::live::LiveAccount;
 use crate::named::rename_file;
-use account_core::{Call, Entry, Reply, StepError};
+use account_core::{Call, Reply, StepError};
 use admission::Verdict;
 use keeper::{FileRow, Keeper};
-use quota_units::Name;
-use root_ledgers::{size_of_file, write_lines};
+use root_ledgers::size_of_file;
 use std::alloc::Global;
 
-impl<K: Keeper> AccountState<K> {
-    /// Serves a move of this caller: the message of this base goes from one mailbox to another, and keeps its file's name.
-    ///
-    /// # Errors
-    ///
-    /// `Store` where the store failed before the file was moved; the entry has fault then. `NoMemory`: there is no entry.
-    #[tactic(auto, using(crate::proofs::Entering::fault_leaves, crate::proofs::Entering::excused_more))]
+impl<K: Keeper> LiveAccount<K> {
+    /// A move: the message of this base goes from one mailbox to another, and keeps its file's name.
     pub(crate) fn move_message(
         &mut self,
         alloc: Global,
-        caller: u32,
-        from: Name,
-        base: Name,
-        to: Name,
+        from: &[u8],
+        base: &[u8],
+        to: &[u8],
     ) -> Result<Reply, StepError>
-        requires room { length self.old.history < self.old.setup.journal }
-        requires held { length self.old.history < self.old.reserved }
-        ensures serves { Serves caller (Call.Move from base to) [] result self.old self.new }
-        ensures form { IfOk result (HasForm self.old.setup.roots self.old.setup.mailboxes (Call.Move from base to)) }
-        ensures spared { result ≡ Err StepError.NoMemory → Spares (Call.Move from base to) self.old self.new }
-        ensures due { Changes (Spends (result ≡ Err StepError.Store) (self.old.faults + self.old.append_faults) (self.new.faults + self.new.append_faults)) self.old.told self.new.told }
-        ensures never_full { (limit : ℕ) → result ≢ Err (StepError.JournalFull limit) }
+        requires shown { IsShown self.old }
+        requires changes { self.old.generation < 2 ^ 63 }
+        ensures { Steps (Call.Move from.now base.now to.now) [] result self.old self.new }
     {
-        self.is_in_order();
-        if !self.has_mailbox(from.as_slice()) {
-            self.note(caller, Call::Move { from, base, to }, false);
+        self.is_whole();
+        if !self.has_mailbox(from) {
             return Ok(Reply::NoMailbox);
         }
-        if !self.has_mailbox(to.as_slice()) {
-            self.note(caller, Call::Move { from, base, to }, false);
+        if !self.has_mailbox(to) {
             return Ok(Reply::NoMailbox);
         }
-        match self.find_file(alloc, &from, &base) {
-            Ok(Some(file)) => self.place(alloc, caller, from, base, to, file),
-            Ok(None) => {
-                self.note(caller, Call::Move { from, base, to }, false);
-                Ok(Reply::NoMessage)
-            }
-            Err(fault) => Err(self.fail(caller, Call::Move { from, base, to }, fault)),
+        match self.find_file(alloc, from, base)? {
+            None => Ok(Reply::NoMessage),
+            Some(file) => self.move_found(alloc, from, base, to, &file),
         }
     }
 
-    /// Moves a message whose file was found, where the target has no message of its base.
-    #[tactic(auto, using(crate::proofs::Entering::fault_leaves, crate::proofs::Entering::excused_more))]
-    fn place(
+    /// Moves a message whose file was found, if the target has no message of its base.
+    fn move_found(
         &mut self,
         alloc: Global,
-        caller: u32,
-        from: Name,
-        base: Name,
-        to: Name,
-        file: FileRow,
+        from: &[u8],
+        base: &[u8],
+        to: &[u8],
+        file: &FileRow,
     ) -> Result<Reply, StepError>
-        requires room { length self.old.history < self.old.setup.journal }
-        requires held { length self.old.history < self.old.reserved }
-        requires source { list_any (λ name. bytes_eq name from) self.old.setup.mailboxes ≡ true }
-        requires target { list_any (λ name. bytes_eq name to) self.old.setup.mailboxes ≡ true }
-        requires found { IfSome self.old.told (λ t. Some file ≡ file_named base (listed from t.files.rows)) }
-        requires there { OfAccount self.old (IsThere from base to (message_in from file)) }
-        ensures serves { Serves caller (Call.Move from base to) [] result self.old self.new }
-        ensures form { IfOk result (HasForm self.old.setup.roots self.old.setup.mailboxes (Call.Move from base to)) }
-        ensures spared { result ≡ Err StepError.NoMemory → Spares (Call.Move from base to) self.old self.new }
-        ensures due { Changes (Spends (result ≡ Err StepError.Store) (self.old.faults + self.old.append_faults) (self.new.faults + self.new.append_faults)) self.old.told self.new.told }
-        ensures never_full { (limit : ℕ) → result ≢ Err (StepError.JournalFull limit) }
+        requires shown { IsShown self.old }
+        requires changes { self.old.generation < 2 ^ 63 }
+        requires source { list_any (λ other. bytes_eq other from.now) self.old.mailboxes ≡ true }
+        requires target { list_any (λ other. bytes_eq other to.now) self.old.mailboxes ≡ true }
+        requires found { IfSome self.old.told (λ t. Some file.now ≡ file_named base.now (listed from.now t.files.rows)) }
+        ensures { Steps (Call.Move from.now base.now to.now) [] result self.old self.new }
     {
-        self.is_in_order();
-        if from.as_slice() == to.as_slice() {
-            self.note(caller, Call::Move { from, base, to }, false);
+        self.is_whole();
+        if from == to {
             return Ok(Reply::Moved);
         }
-        match self.find_file(alloc, &to, &base) {
-            Ok(None) => self.fit_in(alloc, caller, from, base, to, file),
-            Ok(Some(_)) => {
-                self.note(caller, Call::Move { from, base, to }, false);
-                Ok(Reply::NameTaken)
-            }
-            Err(fault) => Err(self.fail(caller, Call::Move { from, base, to }, fault)),
+        match self.find_file(alloc, to, base)? {
+            Some(_) => Ok(Reply::NameTaken),
+            None => self.move_fitting(alloc, from, base, to, file),
         }
     }
 
-    /// Moves a message to a mailbox that has none of its base, where it fits the roots that it comes under.
-    #[tactic(auto, using(crate::proofs::Entering::fault_leaves, crate::proofs::Entering::excused_more))]
-    fn fit_in(
+    /// Moves a message to a mailbox that has none of its base, if it fits the roots that it comes
+    /// under.
+    fn move_fitting(
         &mut self,
         alloc: Global,
-        caller: u32,
-        from: Name,
-        base: Name,
-        to: Name,
-        file: FileRow,
+        from: &[u8],
+        base: &[u8],
+        to: &[u8],
+        file: &FileRow,
     ) -> Result<Reply, StepError>
-        requires room { length self.old.history < self.old.setup.journal }
-        requires held { length self.old.history < self.old.reserved }
-        requires source { list_any (λ name. bytes_eq name from) self.old.setup.mailboxes ≡ true }
-        requires target { list_any (λ name. bytes_eq name to) self.old.setup.mailboxes ≡ true }
-        requires found { IfSome self.old.told (λ t. Some file ≡ file_named base (listed from t.files.rows)) }
-        requires may { OfAccount self.old (λ account. MayMove account from base to (message_in from file)) }
-        requires apart { bytes_eq from to ≡ false }
-        ensures serves { Serves caller (Call.Move from base to) [] result self.old self.new }
-        ensures form { IfOk result (HasForm self.old.setup.roots self.old.setup.mailboxes (Call.Move from base to)) }
-        ensures spared { result ≡ Err StepError.NoMemory → Spares (Call.Move from base to) self.old self.new }
-        ensures due { Changes (Spends (result ≡ Err StepError.Store) (self.old.faults + self.old.append_faults) (self.new.faults + self.new.append_faults)) self.old.told self.new.told }
-        ensures never_full { (limit : ℕ) → result ≢ Err (StepError.JournalFull limit) }
+        requires shown { IsShown self.old }
+        requires changes { self.old.generation < 2 ^ 63 }
+        requires source { list_any (λ other. bytes_eq other from.now) self.old.mailboxes ≡ true }
+        requires target { list_any (λ other. bytes_eq other to.now) self.old.mailboxes ≡ true }
+        requires found { IfSome self.old.told (λ t. Some file.now ≡ file_named base.now (listed from.now t.files.rows)) }
+        requires free { IfSome self.old.told (λ t. None ≡ file_named base.now (listed to.now t.files.rows)) }
+        requires apart { bytes_eq from.now to.now ≡ false }
+        ensures { Steps (Call.Move from.now base.now to.now) [] result self.old self.new }
     {
-        self.is_in_order();
-        let octets = size_of_file(&file);
-        match self.fits(alloc, Some(from.as_slice()), to.as_slice(), octets) {
-            Ok(Verdict::Fits) => self.carry(alloc, caller, from, base, to, file),
-            Ok(Verdict::Over { root, resource }) => {
-                self.note(caller, Call::Move { from, base, to }, false);
-                Ok(Reply::Over { root, resource })
-            }
-            Err(fault) => Err(self.fail(caller, Call::Move { from, base, to }, fault)),
+        self.is_whole();
+        let octets = size_of_file(file);
+        let set = self.coming(Some(from), to);
+        self.settle(alloc, set)?;
+        match self.verdict(set, octets) {
+            Verdict::Over { root, resource } => Ok(Reply::Over { root, resource }),
+            Verdict::Fits => self.move_file(alloc, from, base, to, file),
         }
     }
 
-    /// Moves the file of a message that fits, writes the lines, and enters the call.
-    #[tactic(auto, using(crate::proofs::Entering::fault_leaves, crate::proofs::Entering::excused_more))]
-    fn carry(
+    /// Moves the file of a message that fits, and writes the lines.
+    fn move_file(
         &mut self,
         alloc: Global,
-        caller: u32,
-        from: Name,
-        base: Name,
-        to: Name,
-        file: FileRow,
+        from: &[u8],
+        base: &[u8],
+        to: &[u8],
+        file: &FileRow,
     ) -> Result<Reply, StepError>
-        requires room { length self.old.history < self.old.setup.journal }
-        requires held { length self.old.history < self.old.reserved }
-        requires source { list_any (λ name. bytes_eq name from) self.old.setup.mailboxes ≡ true }
-        requires target { list_any (λ name. bytes_eq name to) self.old.setup.mailboxes ≡ true }
-        requires found { IfSome self.old.told (λ t. Some file ≡ file_named base (listed from t.files.rows)) }
-        requires may { OfAccount self.old (λ account. MayMove account from base to (message_in from file)) }
-        requires fits { OfAccount self.old (λ account. over_of self.old.setup.roots account (gaining self.old.setup.roots from to) (message_in from file).octets ≡ None) }
-        requires apart { bytes_eq from to ≡ false }
-        ensures opened { Opened self.old self.new }
-        ensures enters { Enters caller (Call.Move from base to) result self.old.history self.new.history }
-        ensures reply { IfOk result (λ given. OfAccount self.old (λ account. given ≡ reply_of self.old.setup.roots account (Call.Move from base to))) }
-        ensures form { IfOk result (HasForm self.old.setup.roots self.old.setup.mailboxes (Call.Move from base to)) }
-        ensures writes { WritesBy (Call.Move from base to) result self.old self.new }
-        ensures rows { Changes (OnFiles (λ files files'. ServesRows self.old.epoch (Call.Move from base to) [] result files.rows files'.rows)) self.old.told self.new.told }
-        ensures there { IfOk result (λ given. misses given ≡ false) }
-        ensures due { Changes (Spends (result ≡ Err StepError.Store) (self.old.faults + self.old.append_faults) (self.new.faults + self.new.append_faults)) self.old.told self.new.told }
-        ensures cause { result ≡ Err StepError.Store → Rose self.old.faults self.new.faults }
-        ensures never_full { (limit : ℕ) → result ≢ Err (StepError.JournalFull limit) }
+        requires shown { IsShown self.old }
+        requires changes { self.old.generation < 2 ^ 63 }
+        requires source { list_any (λ other. bytes_eq other from.now) self.old.mailboxes ≡ true }
+        requires target { list_any (λ other. bytes_eq other to.now) self.old.mailboxes ≡ true }
+        requires found { IfSome self.old.told (λ t. Some file.now ≡ file_named base.now (listed from.now t.files.rows)) }
+        requires free { IfSome self.old.told (λ t. None ≡ file_named base.now (listed to.now t.files.rows)) }
+        requires apart { bytes_eq from.now to.now ≡ false }
+        requires fits { (account : Account) → Shows self.old account → over_of self.old.roots account (gaining self.old.roots from.now to.now) (message_in from.now file.now).octets ≡ None }
+        ensures acts { Acts (Call.Move from.now base.now to.now) [] result self.old self.new }
+        ensures spared { result ≡ Err StepError.NoMemory → StayCalm (store_of self.old) (store_of self.new) }
     {
-        let octets = size_of_file(&file);
+        self.ledgers.are_kept();
+        let octets = size_of_file(file);
         let name = file.name.as_slice();
-        let moved = rename_file(
-            &mut self.keeper,
-            alloc,
-            from.as_slice(),
-            name,
-            to.as_slice(),
-            name,
-        );
-        if let Err(fault) = moved {
-            let call = Call::Move { from, base, to };
-            return Err(self.fail(caller, call, step_error(fault)));
+        if let Err(fault) = rename_file(&mut self.keeper, alloc, from, name, to, name) {
+            return Err(step_error(fault));
         }
-        // The account has at most four roots.
-        let _count = self.setup.roots.count();
-        write_lines(
-            &mut self.keeper,
-            &self.setup.roots,
-            &self.limits,
-            &mut self.books,
-            Some(from.as_slice()),
-            Some(to.as_slice()),
-            octets,
-        );
+        self.ledgers.write_lines(&mut self.keeper, &self.roots, Some(from), Some(to), octets);
         self.counts.generation += 1;
-        self.history.push_reserved(Entry {
-            caller,
-            call: Call::Move { from, base, to },
-            fault: false,
-        });
         Ok(Reply::Moved)
     }
 }

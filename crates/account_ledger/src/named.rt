@@ -1,23 +1,17 @@
 // The file of the message that a mailbox and a base name is looked for: its mailbox is listed, and no list of messages is kept.
-ghost use Rattle.std.specs.Prelude.{◌+◌, ◌≡◌, ◌≢◌, ℕ, true, false, ◌&&◌, bytes_eq, IfOk, IfSome, IsErrOf};
-ghost use Rattle.std.specs.List.{list_any};
-ghost use Rattle.std.specs.Option.{option_map};
-ghost use Rattle.account_core.specs.Messages.{named_message};
-ghost use Rattle.account_ledger.specs.Messages.{message_in};
-ghost use Rattle.keeper.specs.Files.{listed, has_row};
-ghost use Rattle.keeper.specs.Calls.{Changes, Renames, Spends};
+ghost use Rattle.std.specs.Prelude.{◌≡◌, ◌≢◌, ◌<◌, ℕ, true, false, ◌&&◌, bytes_eq, length, IfOk, IfSome, IsErrOf};
 ghost use Rattle.quota_units.specs.Causes.{HasCause};
+ghost use Rattle.keeper.specs.Files.{listed, has_row};
+ghost use Rattle.keeper.specs.Calls.{Changes, Due, Renames};
+ghost use Rattle.account_ledger.specs.Counting.{mailbox_at};
+ghost use Rattle.account_ledger.specs.Lives.{IsWhole, Looks};
 ghost use Rattle.account_ledger.specs.NamedFiles.{file_named};
-ghost use Rattle.account_ledger.specs.Order.{IsInOrder};
-ghost use Rattle.account_ledger.specs.Serving.{LedgersStay, OfAccount, Opened};
-ghost use Rattle.root_ledgers.specs.Settling.{OnFiles};
 
-use crate::AccountState;
 use crate::fault::step_error;
+use crate::live::LiveAccount;
 use account_core::StepError;
 use keeper::{FileRow, KeepError, Keeper};
-use message_names::parse_name;
-use quota_units::Name;
+use message_names::base_of;
 use std::alloc::Global;
 
 /// The first of the files that has this base.
@@ -25,37 +19,56 @@ fn first_named(files: Vec<FileRow>, base: &[u8]) -> Option<FileRow>
     ensures { result ≡ file_named base.now files.items }
 {
     let mut files = files.into_iter();
-    files.find(|file| parse_name(file.name.as_slice()).base == base)
+    files.find(|file| base_of(file.name.as_slice()) == base)
 }
 
-impl<K: Keeper> AccountState<K> {
+impl<K: Keeper> LiveAccount<K> {
+    /// The files of a mailbox.
+    pub(crate) fn list(&mut self, alloc: Global, mailbox: &[u8]) -> Result<Vec<FileRow>, StepError>
+        ensures looks { Looks (result ≡ Err StepError.Store) self.old self.new }
+        ensures files { IfOk result (λ files. IfSome self.old.told (λ t. files.items ≡ listed mailbox.now t.files.rows)) }
+        ensures whole { IsWhole self.new }
+        ensures never_full { (limit : ℕ) → result ≢ Err (StepError.JournalFull limit) }
+    {
+        let listed = self.keeper.list(alloc, mailbox);
+        self.is_whole();
+        match listed {
+            Ok(files) => Ok(files),
+            Err(fault) => Err(step_error(fault)),
+        }
+    }
+
+    /// The files of the mailbox at this place.
+    pub(crate) fn list_part(&mut self, alloc: Global, index: u32) -> Result<Vec<FileRow>, StepError>
+        requires { index < length self.old.mailboxes }
+        ensures looks { Looks (result ≡ Err StepError.Store) self.old self.new }
+        ensures files { IfOk result (λ files. IfSome self.old.told (λ t. files.items ≡ listed (mailbox_at self.old.mailboxes index) t.files.rows)) }
+        ensures whole { IsWhole self.new }
+        ensures never_full { (limit : ℕ) → result ≢ Err (StepError.JournalFull limit) }
+    {
+        let mailbox = &self.mailboxes.as_slice()[index as usize];
+        let listed = self.keeper.list(alloc, mailbox.as_slice());
+        self.is_whole();
+        match listed {
+            Ok(files) => Ok(files),
+            Err(fault) => Err(step_error(fault)),
+        }
+    }
+
     /// The file of the message of this base in a mailbox, which is listed.
     pub(crate) fn find_file(
         &mut self,
         alloc: Global,
-        mailbox: &Name,
-        base: &Name,
+        mailbox: &[u8],
+        base: &[u8],
     ) -> Result<Option<FileRow>, StepError>
-        ensures opened { Opened self.old self.new }
-        ensures history { self.new.history ≡ self.old.history }
-        ensures reserved { self.new.reserved ≡ self.old.reserved }
-        ensures stays { LedgersStay self.old self.new }
-        ensures rows { Changes (OnFiles (λ files files'. files'.rows ≡ files.rows)) self.old.told self.new.told }
-        ensures found { IfOk result (λ found. IfSome self.new.told (λ t. found ≡ file_named base.now (listed mailbox.now t.files.rows))) }
-        ensures message { list_any (λ name. bytes_eq name mailbox.now) self.old.setup.mailboxes ≡ true
-            → IfOk result (λ found. OfAccount self.old (λ account. named_message mailbox.now base.now account.messages ≡ option_map (message_in mailbox.now) found)) }
-        ensures order { IsInOrder self.new }
-        ensures due { Changes (Spends (result ≡ Err StepError.Store) (self.old.faults + self.old.append_faults) (self.new.faults + self.new.append_faults)) self.old.told self.new.told }
-        ensures cause { HasCause (result ≡ Err StepError.Store) self.old.faults self.new.faults }
+        ensures looks { Looks (result ≡ Err StepError.Store) self.old self.new }
+        ensures found { IfOk result (λ found. IfSome self.old.told (λ t. found ≡ file_named base.now (listed mailbox.now t.files.rows))) }
+        ensures whole { IsWhole self.new }
         ensures never_full { (limit : ℕ) → result ≢ Err (StepError.JournalFull limit) }
     {
-        let listed = self.keeper.list(alloc, mailbox.as_slice());
-        self.is_in_order();
-        let files = match listed {
-            Ok(files) => files,
-            Err(fault) => return Err(step_error(fault)),
-        };
-        Ok(first_named(files, base.as_slice()))
+        let files = self.list(alloc, mailbox)?;
+        Ok(first_named(files, base))
     }
 }
 
@@ -72,7 +85,7 @@ pub(crate) fn rename_file<K: Keeper>(
     requires free { (bytes_eq from.now to.now && bytes_eq name.now new_name.now) ≡ false → IfSome (K.told keeper.old) (λ t. has_row to.now new_name.now t.files.rows ≡ false) }
     ensures files { Changes (Renames from.now name.now to.now new_name.now result) (K.told keeper.old) (K.told keeper.new) }
     ensures cause { HasCause (IsErrOf result KeepError.Failed) (K.faults keeper.old) (K.faults keeper.new) }
-    ensures due { Changes (Spends (IsErrOf result KeepError.Failed) (K.faults keeper.old + K.append_faults keeper.old) (K.faults keeper.new + K.append_faults keeper.new)) (K.told keeper.old) (K.told keeper.new) }
+    ensures due { Due (IsErrOf result KeepError.Failed) (K.faults keeper.old) (K.append_faults keeper.old) (K.faults keeper.new) (K.append_faults keeper.new) (K.told keeper.old) (K.told keeper.new) }
     ensures appends { K.append_faults keeper.new ≡ K.append_faults keeper.old }
 {
     if from == to && name == new_name {

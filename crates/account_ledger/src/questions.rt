@@ -1,89 +1,97 @@
-// The questions on mailboxes: the status of one, and a scan of all.
-ghost use Rattle.std.specs.Prelude.{◌+◌, ◌≡◌, ◌≢◌, ◌<◌, ◌⊎◌, ◌↔◌, ℕ, true, false, map, length, bytes_eq, IfOk, IsErrOf, IsTrue};
-ghost use Rattle.std.specs.List.{list_any};
+// The calls that leave the account as it is: questions on roots and on mailboxes, and a scan.
+ghost use Rattle.std.specs.Prelude.{◌≡◌, ◌<◌, ◌≤◌, ◌↔◌, [], vec_capacity, map, length, All, IfOk, IsTrue};
 ghost use Rattle.quota_roots.specs.Governing.{governing};
-ghost use Rattle.quota_units.specs.Causes.{HasCause, next_count};
-ghost use Rattle.keeper.specs.Calls.{Changes, Spends};
-ghost use Rattle.account_core.specs.Machine.{reply_of};
-ghost use Rattle.account_core.specs.Forms.{HasForm};
-ghost use Rattle.account_ledger.specs.Counting.{TellMailbox, mailbox_at};
-ghost use Rattle.account_ledger.specs.Questions.{Looks};
-ghost use Rattle.account_ledger.specs.Serving.{OfAccount, Opened, SettlesSome, StayCalm};
+ghost use Rattle.admission.specs.Fitting.{limits_at};
+ghost use Rattle.account_ledger.specs.Lives.{Steps};
+ghost use Rattle.account_ledger.specs.Rows.{kept_rows};
 
-use crate::AccountState;
 use crate::counting::{sets_of, sums_of};
-use crate::fault::step_error;
-use account_core::{Call, Reply, RootSets, StepError};
-use keeper::{FileRow, KeepError, Keeper};
+use crate::fault::check_reply;
+use crate::live::LiveAccount;
+use crate::rows::rows_of;
+use account_core::{Call, Reply, RootRow, RootRows, RootSets, StepError};
+use keeper::Keeper;
+use quota_roots::MAX_ROOTS;
+use quota_units::Limits;
 use root_ledgers::totals_of_files;
 use std::alloc::{AllocError, Global};
 
-impl<K: Keeper> AccountState<K> {
-    /// The files of a mailbox of the account.
-    fn list_mailbox(&mut self, alloc: Global, mailbox: &[u8]) -> Result<Vec<FileRow>, KeepError>
-        requires { list_any (λ name. bytes_eq name mailbox.now) self.old.setup.mailboxes ≡ true }
-        ensures looks { Looks self.old self.new }
-        ensures files { IfOk result (λ files. OfAccount self.old (TellMailbox mailbox.now files.items)) }
-        ensures due { Changes (Spends (IsErrOf result KeepError.Failed) (self.old.faults + self.old.append_faults) (self.new.faults + self.new.append_faults)) self.old.told self.new.told }
-        ensures cause { HasCause (IsErrOf result KeepError.Failed) self.old.faults self.new.faults }
+impl<K: Keeper> LiveAccount<K> {
+    /// The quota of the root of this name; a root in doubt is settled first.
+    pub(crate) fn quota(&mut self, alloc: Global, name: &[u8]) -> Result<Reply, StepError>
+        ensures { Steps (Call.Quota name.now) [] result self.old self.new }
     {
-        self.keeper.list(alloc, mailbox)
+        self.is_whole();
+        let Some(root) = self.find_root(name) else {
+            return Ok(Reply::NoRoot);
+        };
+        let totals = self.usage(alloc, root)?;
+        let limits = self.limits_of(root);
+        Ok(Reply::Quota(RootRow {
+            root,
+            octets: totals.octets,
+            count: totals.count,
+            limits,
+        }))
     }
 
-    /// The files of the mailbox at this place.
-    fn list_part(&mut self, alloc: Global, index: u32) -> Result<Vec<FileRow>, KeepError>
-        requires { index < length self.old.setup.mailboxes }
-        ensures looks { Looks self.old self.new }
-        ensures files { IfOk result (λ files. OfAccount self.old (TellMailbox (mailbox_at self.old.setup.mailboxes index) files.items)) }
-        ensures due { Changes (Spends (IsErrOf result KeepError.Failed) (self.old.faults + self.old.append_faults) (self.new.faults + self.new.append_faults)) self.old.told self.new.told }
-        ensures cause { HasCause (IsErrOf result KeepError.Failed) self.old.faults self.new.faults }
+    /// The limits of the root of this number.
+    fn limits_of(&self, root: u32) -> Limits
+        requires { root < length self.now.roots }
+        ensures { result ≡ limits_at self.now.limits root }
     {
-        let mailbox = &self.setup.mailboxes.as_slice()[index as usize];
-        self.keeper.list(alloc, mailbox.as_slice())
+        self.ledgers.limits()[root as usize]
     }
 
-    /// Whether the account has a mailbox at this place.
-    fn has_part(&self, index: u32) -> bool
-        ensures { IsTrue result ↔ (index < length self.now.setup.mailboxes) }
+    /// The rows of the roots that govern the mailbox; those in doubt are settled first.
+    pub(crate) fn roots(&mut self, alloc: Global, mailbox: &[u8]) -> Result<Reply, StepError>
+        ensures { Steps (Call.Roots mailbox.now) [] result self.old self.new }
     {
-        (index as usize) < self.setup.mailboxes.as_slice().len()
+        self.is_whole();
+        let rows = Vec::with_capacity(alloc, MAX_ROOTS as usize)?;
+        let set = self.coming(None, mailbox);
+        self.settle(alloc, set)?;
+        Ok(Reply::Roots(self.rows_of(rows, mailbox)))
     }
 
-    /// How many deliveries, removals and moves between two mailboxes there were.
-    fn generation(&self) -> u64
-        ensures value { OfAccount self.now (λ account. result ≡ account.generation) }
-        ensures mailboxes { OfAccount self.now (λ account. account.mailboxes ≡ self.now.setup.mailboxes) }
+    /// The rows of the roots that govern the mailbox, in a list that is empty and has memory for
+    /// four.
+    fn rows_of(&self, rows: Vec<RootRow>, mailbox: &[u8]) -> RootRows
+        requires empty { rows.items ≡ [] }
+        requires held { 4 ≤ vec_capacity rows }
+        ensures rows { result ≡ kept_rows self.now.roots self.now.limits self.now.books mailbox.now }
+        ensures inside { All (λ row. row.root < length self.now.roots) result }
     {
-        self.counts.generation
+        self.ledgers.are_kept();
+        rows_of(
+            rows,
+            &self.roots,
+            self.ledgers.limits(),
+            self.ledgers.books(),
+            mailbox,
+        )
     }
 
-    /// The roots that govern each mailbox.
-    fn sets(&self, alloc: Global) -> Result<RootSets, AllocError>
-        ensures { IfOk result (λ sets. sets ≡ map (governing self.now.setup.roots) self.now.setup.mailboxes) }
+    /// Whether INBOX would take a message of this many octets; its roots in doubt are settled first.
+    pub(crate) fn check(&mut self, alloc: Global, octets: u64) -> Result<Reply, StepError>
+        ensures { Steps (Call.Check octets) [] result self.old self.new }
     {
-        sets_of(alloc, &self.setup.roots, self.setup.mailboxes.as_slice())
+        self.is_whole();
+        let set = self.coming(None, b"INBOX");
+        self.settle(alloc, set)?;
+        let verdict = self.verdict(set, octets);
+        Ok(check_reply(verdict))
     }
 
     /// The status of a mailbox, which is listed.
     pub(crate) fn status(&mut self, alloc: Global, mailbox: &[u8]) -> Result<Reply, StepError>
-        ensures opened { Opened self.old self.new }
-        ensures history { self.new.history ≡ self.old.history }
-        ensures reserved { self.new.reserved ≡ self.old.reserved }
-        ensures reply { IfOk result (λ given. OfAccount self.old (λ account. given ≡ reply_of self.old.setup.roots account (Call.Status mailbox.now))) }
-        ensures form { IfOk result (HasForm self.old.setup.roots self.old.setup.mailboxes (Call.Status mailbox.now)) }
-        ensures settles { SettlesSome (λ root. false) self.old self.new }
-        ensures spared { result ≡ Err StepError.NoMemory → StayCalm self.old self.new }
-        ensures due { Changes (Spends (result ≡ Err StepError.Store) (self.old.faults + self.old.append_faults) (self.new.faults + self.new.append_faults)) self.old.told self.new.told }
-        ensures cause { HasCause (result ≡ Err StepError.Store) self.old.faults self.new.faults }
-        ensures never_full { (limit : ℕ) → result ≢ Err (StepError.JournalFull limit) }
+        ensures { Steps (Call.Status mailbox.now) [] result self.old self.new }
     {
+        self.is_whole();
         if !self.has_mailbox(mailbox) {
             return Ok(Reply::NoMailbox);
         }
-        let files = match self.list_mailbox(alloc, mailbox) {
-            Ok(files) => files,
-            Err(fault) => return Err(step_error(fault)),
-        };
+        let files = self.list(alloc, mailbox)?;
         let sums = sums_of(&files);
         Ok(Reply::Status {
             messages: sums.all.count,
@@ -95,44 +103,51 @@ impl<K: Keeper> AccountState<K> {
     }
 
     /// The generation, and the roots that govern each mailbox. No mailbox is listed.
-    pub(crate) fn scan_begin(&self, alloc: Global) -> Result<Reply, StepError>
-        ensures reply { IfOk result (λ given. OfAccount self.now (λ account. given ≡ reply_of self.now.setup.roots account Call.ScanBegin)) }
-        ensures form { IfOk result (HasForm self.now.setup.roots self.now.setup.mailboxes Call.ScanBegin) }
-        ensures never_failed { result ≢ Err StepError.Store }
-        ensures never_full { (limit : ℕ) → result ≢ Err (StepError.JournalFull limit) }
+    pub(crate) fn scan_begin(&mut self, alloc: Global) -> Result<Reply, StepError>
+        ensures { Steps Call.ScanBegin [] result self.old self.new }
     {
+        self.is_whole();
         let generation = self.generation();
         let sets = self.sets(alloc)?;
         Ok(Reply::Begun { generation, sets })
     }
 
+    /// How many deliveries, removals and moves between two mailboxes there were.
+    fn generation(&self) -> u64
+        ensures { result ≡ self.now.generation }
+    {
+        self.counts.generation
+    }
+
+    /// The roots that govern each mailbox.
+    fn sets(&self, alloc: Global) -> Result<RootSets, AllocError>
+        ensures { IfOk result (λ sets. sets ≡ map (governing self.now.roots) self.now.mailboxes) }
+    {
+        sets_of(alloc, &self.roots, self.mailboxes.as_slice())
+    }
+
     /// What the messages of the mailbox at this place add up to; it is listed once.
     pub(crate) fn scan_part(&mut self, alloc: Global, index: u32) -> Result<Reply, StepError>
-        ensures opened { Opened self.old self.new }
-        ensures history { self.new.history ≡ self.old.history }
-        ensures reserved { self.new.reserved ≡ self.old.reserved }
-        ensures reply { IfOk result (λ given. OfAccount self.old (λ account. given ≡ reply_of self.old.setup.roots account (Call.ScanPart index))) }
-        ensures form { IfOk result (HasForm self.old.setup.roots self.old.setup.mailboxes (Call.ScanPart index)) }
-        ensures settles { SettlesSome (λ root. false) self.old self.new }
-        ensures lists { (self.new.lists ≡ self.old.lists) ⊎ (self.new.lists ≡ next_count self.old.lists) }
-        ensures spared { result ≡ Err StepError.NoMemory → StayCalm self.old self.new }
-        ensures due { Changes (Spends (result ≡ Err StepError.Store) (self.old.faults + self.old.append_faults) (self.new.faults + self.new.append_faults)) self.old.told self.new.told }
-        ensures cause { HasCause (result ≡ Err StepError.Store) self.old.faults self.new.faults }
-        ensures never_full { (limit : ℕ) → result ≢ Err (StepError.JournalFull limit) }
+        ensures { Steps (Call.ScanPart index) [] result self.old self.new }
     {
-        let generation = self.generation();
+        self.is_whole();
         if !self.has_part(index) {
             return Ok(Reply::NoPart);
         }
-        let files = match self.list_part(alloc, index) {
-            Ok(files) => files,
-            Err(fault) => return Err(step_error(fault)),
-        };
+        let generation = self.generation();
+        let files = self.list_part(alloc, index)?;
         let totals = totals_of_files(&files);
         Ok(Reply::Part {
             generation,
             octets: totals.octets,
             count: totals.count,
         })
+    }
+
+    /// Whether the account has a mailbox at this place.
+    fn has_part(&self, index: u32) -> bool
+        ensures { IsTrue result ↔ (index < length self.now.mailboxes) }
+    {
+        (index as usize) < self.mailboxes.as_slice().len()
     }
 }

@@ -1,5 +1,5 @@
 -- Failures that are due, over several calls of a keeper.
-use Rattle.std.proofs.Common.{◌≡◌, ℕ, ◌+◌, ◌≤◌, ◌<◌, Option, Some, None, arith, sym, subst, inl, inr, ◌⊎◌}
+use Rattle.std.proofs.Common.{◌≡◌, ℕ, ◌+◌, ◌≤◌, Option, arith}
 use Rattle.keeper.specs.Calls.{Told, Changes, Spends}
 use Rattle.keeper.proofs.Changing.{changes_then, changes_weaken, changes_same}
 

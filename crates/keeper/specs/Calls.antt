@@ -2,7 +2,7 @@
 use Rattle.std.specs.Prelude.{◌≡◌, ◌≢◌, ◌+◌, ◌≤◌, ◌<◌, ℕ, Vec, List, [], ◌∷◌, ◌++◌, Option, Some, None, Result, Ok, Err, ⊤}
 use Rattle.std.specs.Option.{option_map}
 use Rattle.keeper.specs.declared.rows.FileRow.{FileRow}
-use Rattle.keeper.specs.Files.{Files, listed, removed, renamed, ledger_at, ledger_bytes}
+use Rattle.keeper.specs.Files.{Files, ButLedgers, listed, removed, renamed, ledger_at, ledger_bytes}
 
 -- what a keeper tells: its files, and how many failures of its calls may still come
 pub record Told : Type 0 where
@@ -20,6 +20,16 @@ Changes R (Some old) (Some new) = R old new
 pub record Spends (failed : Type 0) (before now : ℕ) (told told' : Told) : Type 0 where
   pub fewer : failed → told'.due < told.due
   pub bounded : now + told'.due ≤ before + told.due
+
+-- the same of calls that both counts of faults have
+abbrev pub Due : (failed : Type 0) → (faults appends faults' appends' : ℕ)
+    → Option Told → Option Told → Type 0
+Due failed faults appends faults' appends' told told' =
+    Changes (Spends failed (faults + appends) (faults' + appends')) told told'
+
+-- what the files change by, if they are told
+abbrev pub OnFiles : (Files → Files → Type 0) → Told → Told → Type 0
+OnFiles R told told' = R told.files told'.files
 
 -- list: the files of the mailbox
 abbrev pub Lists : {A E : Type 0} → List ℕ → Result (Vec FileRow A) E → Told → Told → Type 0
@@ -49,7 +59,7 @@ Reads root (Err e) told told' = told'.files ≡ told.files
 
 -- all but the ledger of this root stays
 pub record OneLedger (root : ℕ) (files files' : Files) : Type 0 where
-  pub rows : files'.rows ≡ files.rows
+  pub same : ButLedgers files files'
   pub others : (other : ℕ) → other ≢ root → ledger_at files' other ≡ ledger_at files other
 
 -- the ledger of this root has these bytes now, and all else stays

@@ -1,5 +1,5 @@
 -- The files of an account: its message files, in the mailboxes of a Maildir++ tree, and the ledgers of its quota roots.
-use Rattle.std.specs.Prelude.{ℕ, ◌-◌, Bool, ◌&&◌, Vec, replicate, if◌then◌else◌, List, [], ◌∷◌, ◌++◌, length, map, filter, slice_index_or, bytes_eq, Option, Some, None}
+use Rattle.std.specs.Prelude.{◌≡◌, ℕ, ◌-◌, Bool, ◌&&◌, Vec, replicate, if◌then◌else◌, List, [], ◌∷◌, ◌++◌, length, map, filter, slice_index_or, bytes_eq, Option, Some, None}
 use Rattle.std.specs.List.{list_any}
 use Rattle.std.specs.Option.{option_map}
 use Rattle.keeper.specs.declared.rows.FileRow.{FileRow}
@@ -55,6 +55,10 @@ bytes_of (Some bytes) = bytes
 -- its bytes; a ledger that is not there has none
 abbrev pub ledger_bytes : Files → ℕ → List ℕ
 ledger_bytes files root = bytes_of (ledger_at files root)
+
+-- nothing but ledgers has changed
+abbrev pub ButLedgers : Files → Files → Type 0
+ButLedgers files files' = files' ≡ record files { ledgers = files'.ledgers }
 
 -- the ledgers of four roots: these, and none for each that is missing
 abbrev pub four_ledgers : {A : Type 0} → List (Option (Vec ℕ A)) → List (Option (List ℕ))

@@ -1,14 +1,15 @@
 -- The roots that govern a mailbox: one root more, and which they are.
-use Rattle.std.proofs.Common.{◌≡◌, ℕ, ◌+◌, ◌<◌, true, false, not, ◌&&◌, cond, ◌↔◌, List, [], ◌∷◌, ◌++◌, length, get_or, arith, sym, ◌∙◌, ap, inl, inr, append-nil}
+use Rattle.std.proofs.Common.{◌≡◌, ℕ, ◌+◌, ◌<◌, true, false, not, ◌&&◌, cond, ◌↔◌, List, [], ◌∷◌, ◌++◌, length, get_or, Option, Some, None, arith, sym, ◌∙◌, ap, inl, inr, append-nil}
 use Rattle.std.specs.List.{All, Contains, filter, range_with_len}
 use Rattle.std.specs.Option.{option_map_or}
-use Rattle.std.proofs.lemmas.Bool.{and_parts, and_from, cases_lt, false≢true, not-true}
+use Rattle.std.proofs.lemmas.Bool.{and_parts, and_from, cases_lt, false≢true, not-true, cases_Bool}
 use Rattle.std.proofs.lemmas.List.{map-id}
 use Rattle.std.proofs.lemmas.List.Elements.{filter-append, All-filter}
 use Rattle.std.proofs.lemmas.List.FromFn.{map-range_with_len_more, length-range_with_len, get_or-range_with_len}
 use Rattle.std.proofs.lemmas.Option.{slice_get-get_or, slice_get_past}
 use Rattle.quota_roots.specs.declared.root.RootSpec.{RootSpec}
-use Rattle.quota_roots.specs.Governing.{governs, governs_at, governing, gains, gains_at, gaining}
+use Rattle.quota_roots.specs.Governing.{governs, governs_at, governing, gains, gains_at, gaining, coming, comes_under}
+use Rattle.quota_roots.specs.RootSets.{has_root}
 use Rattle.quota_roots.proofs.MemberLemmas.{is_in-from_Contains, Contains-from_is_in, is_in-filter, range-is_in}
 
 -- those below this number
@@ -86,3 +87,28 @@ gaining_members roots from to root =
       λ governed. let inside = governed_inside roots to root governed.0 in
           Contains-from_is_in _ root (both ∙ and_from _ _ (range-is_in root (length roots) 0 (omega arith) (omega arith)) (and_from _ _ governed.0 (ap not governed.1))),
     )
+
+-- which roots a message comes under
+governing_has : (roots : List RootSpec) (mailbox : List ℕ) (root : ℕ) → has_root (governing roots mailbox) root ≡ governs_at roots root mailbox
+governing_has roots mailbox root = elim (cases_Bool (governs_at roots root mailbox)) [
+  | inl is ↦ is_in-from_Contains _ root ((governing_members roots mailbox root).1 is) ∙ sym is
+  | inr is ↦ elim (cases_Bool (has_root (governing roots mailbox) root)) [
+    | inl has ↦ absurd (false≢true (sym is ∙ (governing_members roots mailbox root).0 (Contains-from_is_in _ root has)))
+    | inr none ↦ none ∙ sym is
+  ]
+]
+
+gaining_has : (roots : List RootSpec) (from to : List ℕ) (root : ℕ) → has_root (gaining roots from to) root ≡ gains_at roots root from to
+gaining_has roots from to root = elim (cases_Bool (gains_at roots root from to)) [
+  | inl is ↦ let parts = and_parts _ _ is in is_in-from_Contains _ root ((gaining_members roots from to root).1 (parts.0, not-true _ parts.1)) ∙ sym is
+  | inr is ↦ elim (cases_Bool (has_root (gaining roots from to) root)) [
+    | inl has ↦
+        let members = (gaining_members roots from to root).0 (Contains-from_is_in _ root has) in
+        absurd (false≢true (sym is ∙ and_from _ _ members.0 (ap not members.1)))
+    | inr none ↦ none ∙ sym is
+  ]
+]
+
+pub coming_has : (roots : List RootSpec) (from : Option (List ℕ)) (to : List ℕ) (root : ℕ) → has_root (coming roots from to) root ≡ comes_under roots from to root
+coming_has roots None to root = governing_has roots to root
+coming_has roots (Some from) to root = gaining_has roots from to root

@@ -1,17 +1,17 @@
 -- Sets of roots as bits. What holds of each of the sixteen sets and each of the four roots is computed.
-use Rattle.std.proofs.Common.{◌≡◌, ℕ, zero, suc, ◌*◌, ◌/◌, ◌%◌, ◌^◌, ◌<◌, Bool, true, not, ◌&&◌, ◌||◌, ◌↔◌, [], ◌∷◌, ◌++◌, eqb, ltb, bit_and, bit_or, arith, refl, sym, ◌∙◌, ap}
+use Rattle.std.proofs.Common.{◌≡◌, ℕ, zero, suc, ◌*◌, ◌/◌, ◌%◌, ◌^◌, ◌<◌, ◌≤◌, Bool, true, false, not, ◌&&◌, ◌||◌, ◌↔◌, [], ◌∷◌, ◌++◌, eqb, ltb, bit_and, bit_or, arith, refl, sym, ◌∙◌, ap, inl, inr}
 use Rattle.std.specs.Cmp.{booleans_Decides}
 use Rattle.std.specs.List.{All, Contains, list_all, range_with_len}
 use Rattle.std.specs.List.Sorted.{IsStrictlyIncreasing}
 use Rattle.std.specs.Int.{bit_at}
 use Rattle.std.specs.Str.{bytes_eq}
 use mathlib.Core.Bool.{beq}
-use Rattle.std.proofs.lemmas.Bool.{agree_below, agree_below_at, ltb-true, lt-ltb, and_parts, not_from_true}
+use Rattle.std.proofs.lemmas.Bool.{agree_below, agree_below_at, ltb-true, lt-ltb, and_parts, not_from_true, cases_Bool}
 use Rattle.std.proofs.lemmas.List.Elements.{All-contains, All-weaker}
 use Rattle.std.proofs.lemmas.Slice.Eq.{bytes_eq-Decides}
 use Rattle.std.proofs.lemmas.List.Kept.{IsStrictlyIncreasing-filter}
 use Rattle.std.proofs.lemmas.List.Sums.{list_all-from_AllPass, AllPass-from_list_all}
-use Rattle.quota_roots.specs.RootSets.{members}
+use Rattle.quota_roots.specs.RootSets.{members, has_root}
 use Rattle.quota_roots.proofs.MemberLemmas.{is_in, is_in-from_Contains, Contains-from_is_in}
 
 abbrev each_set : (ℕ → ℕ → Bool) → Bool
@@ -87,3 +87,16 @@ with_small bits root small under above = ltb-true _ 16 (and_parts _ _ (added bit
 pub with_members : (bits root : ℕ) → bits < 16 → root < 4 → All (λ other. other < root) (members bits) → members (bit_or bits (1 * 2 ^ root % 256)) ≡ members bits ++ root ∷ []
 unfolding with_bit
 with_members bits root small under above = (bytes_eq-Decides _ _).0 (and_parts _ _ (added bits root small under above)).1
+
+-- the bit tells whether the root is in the set
+pub bit_is : (bits root : ℕ) → bits < 16 → root < 4 → eqb (bit_and (bits / 2 ^ root) 1) 1 ≡ has_root (members bits) root
+unfolding tells
+bit_is bits root small under = (booleans_Decides _ _).0 (each_set_at tells tells_each bits root small under)
+
+-- no other root is
+pub past_none : (bits root : ℕ) → bits < 16 → 4 ≤ root → has_root (members bits) root ≡ false
+past_none bits root small past =
+    elim (cases_Bool (has_root (members bits) root)) [
+      | inl is ↦ let low = members_low bits root small (Contains-from_is_in _ root is) in absurd (omega arith)
+      | inr is ↦ is
+    ]

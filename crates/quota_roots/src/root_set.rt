@@ -1,5 +1,6 @@
 ghost use Rattle.std.specs.Prelude.{◌≡◌, ◌<◌, ◌↔◌, [], ◌∷◌, ◌++◌, IsTrue, All, Contains};
 ghost use Rattle.std.specs.List.Sorted.{IsStrictlyIncreasing};
+ghost use Rattle.quota_roots.specs.RootSets.{has_root};
 
 use std::marker::Model;
 
@@ -32,6 +33,14 @@ impl RootSet {
         RootSet(0)
     }
 
+    /// The set of this root alone.
+    pub fn one(root: u32) -> RootSet
+        requires { root < 4 }
+        ensures { result ≡ root ∷ [] }
+    {
+        RootSet::none().with(root)
+    }
+
     /// The set with this root behind those that it has.
     #[tactic(auto, using(crate::proofs::SetLemmas::with_small, crate::proofs::SetLemmas::with_members))]
     pub(crate) fn with(self, root: u32) -> RootSet
@@ -43,9 +52,10 @@ impl RootSet {
     }
 
     /// Whether the root of this number is in the set.
-    #[tactic(auto, using(crate::proofs::SetLemmas::bit_tells, crate::proofs::SetLemmas::all_low, crate::proofs::SetLemmas::in_order))]
+    #[tactic(auto, using(crate::proofs::SetLemmas::bit_tells, crate::proofs::SetLemmas::bit_is, crate::proofs::SetLemmas::past_none, crate::proofs::SetLemmas::all_low, crate::proofs::SetLemmas::in_order))]
     pub fn has(self, root: u32) -> bool
         ensures value { IsTrue result ↔ Contains self root }
+        ensures is { result ≡ has_root self root }
         ensures low { All (λ other. other < 4) self }
         ensures ordered { IsStrictlyIncreasing self }
     {

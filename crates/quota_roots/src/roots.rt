@@ -2,6 +2,7 @@ ghost use Rattle.std.specs.Prelude.{◌≡◌, ◌≤◌, ◌<◌, ◌↔◌, �
 ghost use Rattle.std.specs.List.{list_all};
 ghost use Rattle.std.specs.Option.{option_map};
 ghost use Rattle.quota_roots.specs.Governing.{governs_at, governing, gaining, coming, comes_under};
+ghost use Rattle.quota_roots.specs.RootSets.{has_root};
 ghost use Rattle.quota_units.specs.Bytes.{is_printable};
 ghost use Rattle.quota_roots.specs.RootLists.{first_bad_name, first_double, has_name, is_prefix_at, is_root_at, is_root_name, name_at, place_of, AreRoots, IsBadName, IsDouble, IsTooMany};
 
@@ -246,21 +247,11 @@ impl Roots {
     {
         gained(&self.specs, from, to)
     }
-    /// Whether a message that goes from one mailbox to another comes under the root of this number; one that is delivered
-    /// comes from none.
-    pub fn comes_under(&self, root: u32, from: Option<&[u8]>, to: &[u8]) -> bool
-        requires { root < length self.now }
-        ensures { result ≡ comes_under self.now (option_map (λ m. m.now) from.entry) to.now root }
-    {
-        match from {
-            None => self.governs(root, to),
-            Some(from) => self.governs(root, to) && !self.governs(root, from),
-        }
-    }
 
     /// The roots that a message comes under which goes from one mailbox to another; one that is delivered comes from none.
     pub fn coming(&self, from: Option<&[u8]>, to: &[u8]) -> RootSet
         ensures value { result ≡ coming self.now (option_map (λ m. m.now) from.entry) to.now }
+        ensures members { (root : ℕ) → has_root result root ≡ comes_under self.now (option_map (λ m. m.now) from.entry) to.now root }
         ensures below { All (λ root. root < length self.now) result }
     {
         match from {

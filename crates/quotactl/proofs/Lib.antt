@@ -1,4 +1,3 @@
-pub mod Owned
 pub mod Rows
 pub mod Owning
 pub mod Lines

@@ -5,7 +5,7 @@ use Rattle.account_core.specs.declared.calls.Call.TheVariants.{Quota, SetLimits,
 use Rattle.account_core.specs.declared.calls.Entry.{Entry}
 use Rattle.account_core.specs.Account.{Account}
 use Rattle.account_core.specs.Histories.{Origin}
-use Rattle.account_ledger.specs.States.{State, origin_of}
+use Rattle.account_ledger.specs.States.{State}
 use Rattle.accounts_file.specs.Hosts.{plain_roots}
 
 pub record Owned : Type 0 where
@@ -13,7 +13,7 @@ pub record Owned : Type 0 where
   pub history : List Entry
 
 abbrev pub owned_of : State → Owned
-owned_of s = record { origin = origin_of s; history = s.history }
+owned_of s = record { origin = s.origin; history = s.history }
 
 -- the account has the one root of the empty name, and its store told what it was opened with
 pub record IsHeld (owned : Owned) : Type 0 where

@@ -4,14 +4,15 @@ use Rattle.std.specs.Prelude.{IfSome}
 use Rattle.std.proofs.lemmas.Bool.{le-ltb, cases_lt}
 use Rattle.quota_units.specs.Limiting.{LimitNumbers}
 use Rattle.keeper.specs.Files.{Files, ledger_at, ledger_bytes, bytes_of}
-use Rattle.keeper.specs.Calls.{Told, Changes, OneLedger}
+use Rattle.keeper.specs.Calls.{Told, Changes, OnFiles, OneLedger}
+use Rattle.keeper.proofs.LedgerLemmas.{but_then}
 use Rattle.admission.specs.Fitting.{limits_at}
 use Rattle.root_ledgers.specs.declared.book.Book.{Book}
 use Rattle.root_ledgers.specs.declared.book.Standing.{Standing}
 use Rattle.root_ledgers.specs.declared.book.Standing.TheVariants.{Settled}
 use Rattle.root_ledgers.specs.declared.change.Change.{Change}
 use Rattle.root_ledgers.specs.Lines.{has_room, ChangedLedger, BookLined, LedgerLined, BooksLined, LedgersLined, HasCauses, fallen_at, fell_below}
-use Rattle.root_ledgers.specs.Settling.{OnFiles, book_at}
+use Rattle.root_ledgers.specs.Settling.{book_at}
 use Rattle.root_ledgers.proofs.Sums.{one_more, same_below}
 
 pub no_room : (long : ℕ) (line : List ℕ) → 5120 - long ≤ length line → has_room long line ≡ false
@@ -48,7 +49,7 @@ module _ (changes : ℕ → Option Change) (octets : ℕ) (limits : List LimitNu
       → OneLedger n files1 files2 × LedgerLined (changes n) octets (limits_at limits n) (book_at b n) (book_at c n).standing (ledger_at files1 n) (ledger_at files2 n)
       → LedgersLined (n + 1) changes octets limits a c files files2
   ledgers_more files files1 files2 books before (one, line) = record {
-    rows = one.rows ∙ before.rows;
+    same = but_then files files1 files2 before.same one.same;
     done = λ root below. elim (cases_lt root n) [
       | inl earlier ↦
           subst (λ x. LedgerLined (changes root) octets (limits_at limits root) (book_at a root) x (ledger_at files root) (ledger_at files2 root)) (ap (λ (k : Book). k.standing) (sym (others root (omega (arith, earlier)))))

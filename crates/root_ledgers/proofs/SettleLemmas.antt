@@ -1,24 +1,22 @@
 -- Roots are settled one after another.
-use Rattle.std.proofs.Common.{◌≡◌, ℕ, ◌<◌, ◌≤◌, ◌+◌, Bool, true, false, not, nat_eq, List, length, Option, Some, None, refl, sym, ap, ◌∙◌, inl, inr, subst, eqb-true, arith, get_or}
+use Rattle.std.proofs.Common.{◌≡◌, ℕ, ◌<◌, ◌≤◌, ◌+◌, Bool, true, false, nat_eq, List, length, Option, Some, None, refl, sym, ap, ◌∙◌, inl, inr, subst, eqb-true, arith, get_or}
 use Rattle.std.proofs.lemmas.List.{get_or_read}
 use Rattle.std.specs.Prelude.{IfSome, is_some}
-use Rattle.std.proofs.lemmas.Bool.{false≢true, and_parts, cases_lt}
+use Rattle.std.proofs.lemmas.Bool.{false≢true, cases_lt}
 use Rattle.quota_units.specs.Limiting.{LimitNumbers}
 use Rattle.quota_units.specs.declared.totals.Totals.{Totals}
 use Rattle.quota_roots.specs.declared.root.RootSpec.{RootSpec}
-use Rattle.quota_roots.specs.Governing.{governs_at}
 use Rattle.keeper.specs.Files.{Files, Row}
-use Rattle.keeper.specs.Calls.{Told, Changes}
+use Rattle.keeper.specs.Calls.{Told, Changes, OnFiles}
+use Rattle.keeper.proofs.LedgerLemmas.{but_then, rows_same}
 use Rattle.admission.specs.Fitting.{limits_at}
-use Rattle.quota_roots.proofs.GoverningLemmas.{governed_inside}
 use Rattle.root_ledgers.specs.declared.book.Book.{Book}
 use Rattle.root_ledgers.specs.declared.book.Standing.{Standing}
 use Rattle.root_ledgers.specs.declared.book.Standing.TheVariants.{Settled, Doubt}
 use Rattle.root_ledgers.specs.Scans.{scan}
 use Rattle.root_ledgers.specs.Scanning.{AreScans, IsScan, is_wanted}
 use Rattle.root_ledgers.specs.Ledgers.{folded}
-use Rattle.quota_roots.specs.Governing.{comes_under}
-use Rattle.root_ledgers.specs.Settling.{OnFiles, book_at, folded_book, SettlesOrStays, Settling, Marks, MarksOne}
+use Rattle.root_ledgers.specs.Settling.{Kept, kept_of, book_at, folded_book, SettlesOrStays, Settling, Marks, MarksOne}
 use Rattle.keeper.proofs.Changing.{changes_then}
 
 one_then : (may may1 : Bool) → (may1 ≡ true → may ≡ true) → (limits : LimitNumbers) (totals totals1 : Totals) → totals1 ≡ totals → (book book1 book2 : Book) (ledger ledger1 ledger2 : Option (List ℕ))
@@ -51,22 +49,19 @@ module _ (may may1 : ℕ → Bool) (wider : (r : ℕ) → may1 r ≡ true → ma
   pub marks_then : (a b c : List Book) → Marks may a b → Marks may1 b c → Marks may a c
   marks_then a b c s t = record { count = t.count ∙ s.count; each = λ r. mark_then (may r) (may1 r) (wider r) _ _ _ (s.each r) (t.each r) }
 
-  module _ (roots : List RootSpec) (limits : List LimitNumbers) (mailboxes : List (List ℕ)) where
-    pub settling_then : (a b c : List Book) (f g h : Files) → Settling may roots limits mailboxes a b f g → Settling may1 roots limits mailboxes b c g h → Settling may roots limits mailboxes a c f h
+  module _ (roots : List RootSpec) (mailboxes : List (List ℕ)) (limits : List LimitNumbers) where
+    pub settling_then : (a b c : List Book) (f g h : Files) → Settling may roots mailboxes (kept_of limits a) (kept_of limits b) f g → Settling may1 roots mailboxes (kept_of limits b) (kept_of limits c) g h
+        → Settling may roots mailboxes (kept_of limits a) (kept_of limits c) f h
     settling_then a b c f g h s t = record {
-      rows = t.rows ∙ s.rows;
-      each = λ r. one_then (may r) (may1 r) (wider r) (limits_at limits r) _ _ (ap (scan roots r mailboxes) s.rows) _ _ _ _ _ _ (s.each r) (t.each r);
+      same = but_then f g h s.same t.same;
+      each = λ r. one_then (may r) (may1 r) (wider r) (limits_at limits r) _ _ (ap (scan roots r mailboxes) (rows_same f g s.same)) _ _ _ _ _ _ (s.each r) (t.each r);
     }
 
-    pub settles_then : (a b c : List Book) (t u v : Option Told) → Changes (OnFiles (Settling may roots limits mailboxes a b)) t u → Changes (OnFiles (Settling may1 roots limits mailboxes b c)) u v
-        → Changes (OnFiles (Settling may roots limits mailboxes a c)) t v
+    pub settles_then : (a b c : List Book) (t u v : Option Told) → Changes (OnFiles (Settling may roots mailboxes (kept_of limits a) (kept_of limits b))) t u → Changes (OnFiles (Settling may1 roots mailboxes (kept_of limits b) (kept_of limits c))) u v
+        → Changes (OnFiles (Settling may roots mailboxes (kept_of limits a) (kept_of limits c))) t v
     settles_then a b c t u v =
-        changes_then (OnFiles (Settling may roots limits mailboxes a b)) (OnFiles (Settling may1 roots limits mailboxes b c)) (OnFiles (Settling may roots limits mailboxes a c))
+        changes_then (OnFiles (Settling may roots mailboxes (kept_of limits a) (kept_of limits b))) (OnFiles (Settling may1 roots mailboxes (kept_of limits b) (kept_of limits c))) (OnFiles (Settling may roots mailboxes (kept_of limits a) (kept_of limits c)))
         (λ x y z. settling_then a b c x.files y.files z.files) t u v
-
-pub comes_inside : (roots : List RootSpec) (from : Option (List ℕ)) (to : List ℕ) (root : ℕ) → comes_under roots from to root ≡ true → root < length roots
-comes_inside roots None to root comes = governed_inside roots to root comes
-comes_inside roots (Some from) to root comes = governed_inside roots to root (and_parts (governs_at roots root to) (not (governs_at roots root from)) comes).0
 
 pub only_one : (may : ℕ → Bool) (root : ℕ) → may root ≡ true → (r : ℕ) → nat_eq root r ≡ true → may r ≡ true
 only_one may root is r same = subst (λ k. may k ≡ true) (eqb-true root r same) is
@@ -109,12 +104,12 @@ unwanted_settled may standing found scanned is there = by standing (sym scanned.
     by Doubt wanted = absurd (false≢true (sym wanted ∙ there))
 
 -- what is known of the message files stays known
-pub rows_still : (P : List Row → Type 0) (may : ℕ → Bool) (roots : List RootSpec) (limits : List LimitNumbers) (mailboxes : List (List ℕ)) (a b : List Book) (t t' : Option Told)
-    → Changes (OnFiles (Settling may roots limits mailboxes a b)) t t' → IfSome t (λ x. P x.files.rows) → IfSome t' (λ x. P x.files.rows)
-rows_still P may roots limits mailboxes a b None None changed known = tt
-rows_still P may roots limits mailboxes a b None (Some y) changed known = absurd changed
-rows_still P may roots limits mailboxes a b (Some x) None changed known = absurd changed
-rows_still P may roots limits mailboxes a b (Some x) (Some y) changed known = subst P (sym changed.rows) known
+pub rows_still : (P : List Row → Type 0) (may : ℕ → Bool) (roots : List RootSpec) (mailboxes : List (List ℕ)) (k k' : Kept) (t t' : Option Told)
+    → Changes (OnFiles (Settling may roots mailboxes k k')) t t' → IfSome t (λ x. P x.files.rows) → IfSome t' (λ x. P x.files.rows)
+rows_still P may roots mailboxes k k' None None changed known = tt
+rows_still P may roots mailboxes k k' None (Some y) changed known = absurd changed
+rows_still P may roots mailboxes k k' (Some x) None changed known = absurd changed
+rows_still P may roots mailboxes k k' (Some x) (Some y) changed known = subst P (sym (rows_same x.files y.files changed.same)) known
 
 -- the roots behind the one that was settled stay as they were
 pub left_more : (n : ℕ) (a b c : List Book) → Marks (nat_eq n) b c → ((root : ℕ) → n ≤ root → (book_at b root).standing ≡ (book_at a root).standing)

@@ -1,11 +1,12 @@
 -- The lines that calls write behind ledgers: one for each settled root whose usage changes.
-use Rattle.std.specs.Prelude.{◌≡◌, ◌<◌, ◌≤◌, ◌+◌, ◌-◌, ◌^◌, ℕ, pos, neg_ℤ, min, Bool, true, false, nat_lt, if◌then◌else◌, List, length, sum_by, ◌++◌, Option, Some, None}
+use Rattle.std.specs.Prelude.{◌≡◌, ◌<◌, ◌≤◌, ◌+◌, ◌-◌, ◌^◌, ℕ, pos, neg_ℤ, min, Bool, true, false, nat_lt, if◌then◌else◌, List, length, sum_by, ◌++◌, Option, Some, None, IfSome}
 use Rattle.std.specs.List.{range_with_len}
 use Rattle.quota_units.specs.Limiting.{LimitNumbers}
 use Rattle.quota_units.specs.declared.totals.Totals.{Totals}
 use Rattle.quota_roots.specs.declared.root.RootSpec.{RootSpec}
 use Rattle.quota_roots.specs.Governing.{governs_at}
-use Rattle.keeper.specs.Files.{Files, ledger_at, bytes_of}
+use Rattle.keeper.specs.Files.{Files, ButLedgers, ledger_at, ledger_bytes, bytes_of}
+use Rattle.keeper.specs.Calls.{Told}
 use Rattle.admission.specs.Fitting.{limits_at}
 use Rattle.maildirsize.specs.Sums.{Pair}
 use Rattle.maildirsize.specs.Written.{written_line}
@@ -81,7 +82,7 @@ pub record HasCauses (failures before now : ℕ) : Type 0 where
 -- what is kept of a settled root with a line, by its standing then
 abbrev pub lined_book : List ℕ → List ℕ → Totals → Book → Standing → Book
 lined_book line text totals book Settled = record { totals = totals; standing = Settled; length = if has_room book.length line then book.length + length line else length text }
-lined_book line text totals book Doubt = record book { standing = Doubt }
+lined_book line text totals book Doubt = record book { totals = totals; standing = Doubt }
 
 -- the line, the folded text and the usage of a change
 abbrev pub changed_book : Change → ℕ → LimitNumbers → Book → Standing → Book
@@ -95,6 +96,11 @@ ChangedLedger change octets limits book ledger standing ledger' =
 -- where there is no room for the line, the folded text is short
 abbrev pub FoldsShort : Change → ℕ → LimitNumbers → Book → Type 0
 FoldsShort change octets limits book = has_room book.length (line_by change octets) ≡ false → length (folded limits (totals_by change octets book.totals)) < 5120
+
+-- the length of the ledger of each settled root is known, if the files are told
+abbrev pub AreLong : List Book → Option Told → Type 0
+AreLong books told = (root : ℕ) → (book_at books root).standing ≡ Settled
+    → IfSome told (λ t. length (ledger_bytes t.files root) ≡ (book_at books root).length)
 
 -- what is kept of a root: that of a settled root whose usage changes, and no other
 abbrev pub BookBy : Standing → Change → ℕ → LimitNumbers → Book → Book → Type 0
@@ -122,7 +128,7 @@ pub record BooksLined (upto : ℕ) (changes : ℕ → Option Change) (octets : �
 
 -- and so have their ledgers
 pub record LedgersLined (upto : ℕ) (changes : ℕ → Option Change) (octets : ℕ) (limits : List LimitNumbers) (books books' : List Book) (files files' : Files) : Type 0 where
-  pub rows : files'.rows ≡ files.rows
+  pub same : ButLedgers files files'
   pub done : (root : ℕ) → root < upto
       → LedgerLined (changes root) octets (limits_at limits root) (book_at books root) (book_at books' root).standing (ledger_at files root) (ledger_at files' root)
   pub left : (root : ℕ) → upto ≤ root → ledger_at files' root ≡ ledger_at files root

@@ -9,16 +9,7 @@ use Rattle.root_ledgers.specs.declared.book.Standing.TheVariants.{Settled, Doubt
 use Rattle.quota_units.specs.Sums.{cut_totals, AreSmall}
 use Rattle.root_ledgers.specs.Scans.{scan}
 
--- the files stay, and these totals are what the files of these mailboxes add up to
-abbrev pub ScansSome : List RootSpec → ℕ → List (List ℕ) → Totals → Told → Told → Type 0
-ScansSome roots root mailboxes totals told told' = (totals ≡ scan roots root mailboxes told.files.rows) × (told'.files ≡ told.files)
-
--- the files stay, and a scan that is made has what they add up to
-abbrev pub Scans : {E : Type 0} → List RootSpec → ℕ → List (List ℕ) → Result Totals E → Told → Told → Type 0
-Scans roots root mailboxes (Ok totals) told told' = ScansSome roots root mailboxes totals told told'
-Scans roots root mailboxes (Err e) told told' = told'.files ≡ told.files
-
--- a root that may be settled is scanned where it is in doubt
+-- a root that may be settled is scanned if it is in doubt
 abbrev pub is_wanted : Bool → Standing → Bool
 is_wanted may Settled = false
 is_wanted may Doubt = may
@@ -45,6 +36,10 @@ counted governs files (Some totals) = Some (if governs then cut_totals (totals.o
 -- the scan of a root, where it was made
 abbrev pub scan_at : List (Option Totals) → ℕ → Option Totals
 scan_at scans root = slice_index_or scans root None
+
+-- some root is scanned
+abbrev pub SomeScanned : List (Option Totals) → Type 0
+SomeScanned scans = (root : ℕ) × (is_some (scan_at scans root) ≡ true)
 
 -- there are scans exactly of the roots below a number that are wanted
 pub record AreScans (upto : ℕ) (wanted : ℕ → Bool) (scans : List (Option Totals)) : Type 0 where

@@ -1,10 +1,11 @@
--- What settling does to what is kept of the roots and to their ledgers.
-use Rattle.std.specs.Prelude.{◌≡◌, ◌<◌, ◌⊎◌, ℕ, Bool, true, List, length, map, slice_index_or, Option, Some}
+-- What is kept of the roots of an account, and what settling does to it and to their ledgers.
+use Rattle.std.specs.Prelude.{◌≡◌, ◌<◌, ◌≤◌, ◌⊎◌, ℕ, Bool, true, List, length, map, set, slice_index_or, Option, Some, All}
 use Rattle.quota_units.specs.Limiting.{LimitNumbers}
+use Rattle.quota_units.specs.Sums.{AreSmall}
 use Rattle.quota_units.specs.declared.totals.Totals.{Totals}
 use Rattle.quota_roots.specs.declared.root.RootSpec.{RootSpec}
-use Rattle.keeper.specs.Files.{Files, ledger_at}
-use Rattle.keeper.specs.Calls.{Told, Changes}
+use Rattle.keeper.specs.Files.{Files, ButLedgers, ledger_at}
+use Rattle.keeper.specs.Calls.{Told, Changes, OnFiles}
 use Rattle.admission.specs.Fitting.{limits_at}
 use Rattle.root_ledgers.specs.declared.book.Book.{Book}
 use Rattle.root_ledgers.specs.declared.book.Standing.{Standing}
@@ -12,13 +13,23 @@ use Rattle.root_ledgers.specs.declared.book.Standing.TheVariants.{Settled, Doubt
 use Rattle.root_ledgers.specs.Scans.{scan}
 use Rattle.root_ledgers.specs.Ledgers.{folded, IsRight}
 
--- what the files change by, where they are told
-abbrev pub OnFiles : (Files → Files → Type 0) → Told → Told → Type 0
-OnFiles R told told' = R told.files told'.files
+-- what is kept of each root, in the order of the roots
+pub record Kept : Type 0 where
+  pub limits : List LimitNumbers
+  pub books : List Book
+
+abbrev pub kept_of : List LimitNumbers → List Book → Kept
+kept_of limits books = record { limits = limits; books = books }
+
+-- there is a book for each limit, for four roots at most, and no total is large
+pub record AreKept (k : Kept) : Type 0 where
+  pub each : length k.books ≡ length k.limits
+  pub few : length k.limits ≤ 4
+  pub small : All (λ (book : Book). AreSmall book.totals) k.books
 
 -- nothing changes of what is kept of the roots and of the files
-abbrev pub Spared : List Book → List Book → Option Told → Option Told → Type 0
-Spared books books' told told' = (books' ≡ books) × Changes (OnFiles (λ files files'. files' ≡ files)) told told'
+abbrev pub Spared : Kept → Kept → Option Told → Option Told → Type 0
+Spared k k' told told' = (k' ≡ k) × Changes (OnFiles (λ files files'. files' ≡ files)) told told'
 
 -- what is kept of no root
 abbrev pub no_book : Book
@@ -35,7 +46,15 @@ lengths_of books = map (λ book. book.length) books
 
 -- what is kept of a root whose ledger is folded
 abbrev pub folded_book : LimitNumbers → Totals → Book
-folded_book limits totals = record { totals = totals; standing = Settled; length = length (folded limits totals) }
+folded_book limits totals =
+    record { totals = totals; standing = Settled; length = length (folded limits totals) }
+
+-- a root has these limits and totals, and its ledger is folded
+abbrev pub with_folded : Kept → ℕ → LimitNumbers → Totals → Kept
+with_folded k root limits totals = record {
+  limits = set k.limits root limits;
+  books = set k.books root (folded_book limits totals);
+}
 
 -- what is kept of a settled root: its usage, and the length of its ledger, which is right
 pub record IsKept (limits : LimitNumbers) (usage : Totals) (ledger : Option (List ℕ)) (bytes : List ℕ) (book : Book) : Type 0 where
@@ -56,18 +75,27 @@ pub record Settles (limits : LimitNumbers) (totals : Totals) (book book' : Book)
   pub short : length (folded limits totals) < 5120
 
 abbrev pub SettlesOrStays : Bool → LimitNumbers → Totals → Book → Book → Option (List ℕ) → Option (List ℕ) → Type 0
-SettlesOrStays may limits totals book book' ledger ledger' = Stays book book' ledger ledger' ⊎ ((may ≡ true) × Settles limits totals book book' ledger')
+SettlesOrStays may limits totals book book' ledger ledger' =
+    Stays book book' ledger ledger' ⊎ ((may ≡ true) × Settles limits totals book book' ledger')
 
 -- some of the roots that may be settled are, each by a fresh scan, and nothing else changes
-pub record Settling (may : ℕ → Bool) (roots : List RootSpec) (limits : List LimitNumbers) (mailboxes : List (List ℕ)) (books books' : List Book) (files files' : Files) : Type 0 where
-  pub rows : files'.rows ≡ files.rows
-  pub each : (root : ℕ) → SettlesOrStays (may root) (limits_at limits root) (scan roots root mailboxes files.rows) (book_at books root) (book_at books' root) (ledger_at files root) (ledger_at files' root)
+pub record Settling (may : ℕ → Bool) (roots : List RootSpec) (mailboxes : List (List ℕ)) (k k' : Kept) (files files' : Files) : Type 0 where
+  pub same : ButLedgers files files'
+  pub each : (root : ℕ) → SettlesOrStays (may root) (limits_at k.limits root)
+      (scan roots root mailboxes files.rows)
+      (book_at k.books root) (book_at k'.books root) (ledger_at files root) (ledger_at files' root)
 
--- how a root's standing changes where it may be settled
+-- how a root's standing changes if it may be settled
 abbrev pub MarksOne : Bool → Standing → Standing → Type 0
-MarksOne may standing standing' = (standing' ≡ standing) ⊎ ((may ≡ true) × (standing ≡ Doubt) × (standing' ≡ Settled))
+MarksOne may standing standing' =
+    (standing' ≡ standing) ⊎ ((may ≡ true) × (standing ≡ Doubt) × (standing' ≡ Settled))
 
--- the same of the standings, also where nothing is told
+-- the same of the standings, also if nothing is told
 pub record Marks (may : ℕ → Bool) (books books' : List Book) : Type 0 where
   pub count : length books' ≡ length books
   pub each : (root : ℕ) → MarksOne (may root) (book_at books root).standing (book_at books' root).standing
+
+-- one of the roots that may be settled is in doubt
+abbrev pub StaysInDoubt : (ℕ → Bool) → List Book → Type 0
+StaysInDoubt may books =
+    (root : ℕ) × (root < length books) × (may root ≡ true) × ((book_at books root).standing ≡ Doubt)

@@ -3,13 +3,13 @@
 
 mod book;
 mod change;
+mod folding;
 mod lines;
-mod scan;
+mod root_ledgers;
 mod scans;
 mod settling;
 
-pub use book::{Book, Standing, books_in_doubt};
+pub use book::{Book, Standing};
 pub use change::Change;
-pub use lines::write_lines;
-pub use scan::{size_of_file, totals_of_files};
-pub use settling::{settle, settle_coming};
+pub use root_ledgers::RootLedgers;
+pub use scans::{size_of_file, totals_of_files};

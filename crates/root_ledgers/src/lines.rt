@@ -3,17 +3,18 @@ ghost use Rattle.std.specs.Prelude.{◌≡◌, ◌+◌, ◌≢◌, ◌<◌, ◌�
 ghost use Rattle.std.specs.Option.{option_map};
 ghost use Rattle.admission.specs.Fitting.{limits_at};
 ghost use Rattle.keeper.specs.Files.{ledger_at, ledger_bytes};
-ghost use Rattle.keeper.specs.Calls.{Changes, OneLedger, Spends};
+ghost use Rattle.keeper.specs.Calls.{Changes, Due, OnFiles, OneLedger};
 ghost use Rattle.root_ledgers.specs.declared.book.Standing.TheVariants.{Settled};
 ghost use Rattle.root_ledgers.specs.Ledgers.{folded};
-ghost use Rattle.root_ledgers.specs.Lines.{HasCauses, FoldsShort, BookLined, BooksLined, LedgerLined, LedgersLined, fell_below, change_at, LineLedger, ChangedLedger, changed_book, fallen_by, fallen_at, has_room, line_by, lined_book};
+ghost use Rattle.root_ledgers.specs.Lines.{AreLong, HasCauses, FoldsShort, BookLined, BooksLined, LedgerLined, LedgersLined, fell_below, change_at, LineLedger, ChangedLedger, changed_book, fallen_by, fallen_at, has_room, line_by, lined_book};
 ghost use Rattle.quota_units.specs.Sums.{AreSmall};
-ghost use Rattle.root_ledgers.specs.Settling.{OnFiles, book_at};
+ghost use Rattle.root_ledgers.specs.Settling.{book_at};
 
 use crate::book::{Book, Standing};
 use crate::change::{Change, change_at, print_change, totals_by};
+use crate::folding::install_folded;
 use keeper::Keeper;
-use maildirsize::{Text, print_folded};
+use maildirsize::Text;
 use quota_roots::Roots;
 use quota_units::{Limits, Totals};
 
@@ -25,7 +26,6 @@ const LEDGER_ROOM: usize = 5120;
 fn append<K: Keeper>(keeper: &mut K, book: Book, root: u32, line: &[u8], totals: Totals) -> Book
     requires root { root < 4 }
     requires settled { book.standing ≡ Settled }
-    requires kept { AreSmall book.totals }
     requires small { AreSmall totals }
     requires room { has_room book.length line.now ≡ true }
     requires long { IfSome (K.told keeper.old) (λ t. length (ledger_bytes t.files root) ≡ book.length) }
@@ -33,7 +33,7 @@ fn append<K: Keeper>(keeper: &mut K, book: Book, root: u32, line: &[u8], totals:
     ensures small { AreSmall result.totals }
     ensures files { (text : List ℕ) → Changes (OnFiles (λ files files'. OneLedger root files files' × LineLedger true line.now text (ledger_at files root) result.standing (ledger_at files' root))) (K.told keeper.old) (K.told keeper.new) }
     ensures faults { K.faults keeper.new ≡ K.faults keeper.old }
-    ensures due { Changes (Spends (⊥) (K.faults keeper.old + K.append_faults keeper.old) (K.faults keeper.new + K.append_faults keeper.new)) (K.told keeper.old) (K.told keeper.new) }
+    ensures due { Due ⊥ (K.faults keeper.old) (K.append_faults keeper.old) (K.faults keeper.new) (K.append_faults keeper.new) (K.told keeper.old) (K.told keeper.new) }
     ensures appends { HasCauses (fallen_by true true result.standing) (K.append_faults keeper.old) (K.append_faults keeper.new) }
 {
     match keeper.append_ledger(root, line) {
@@ -43,6 +43,7 @@ fn append<K: Keeper>(keeper: &mut K, book: Book, root: u32, line: &[u8], totals:
             length: book.length + line.len(),
         },
         Err(_) => Book {
+            totals,
             standing: Standing::Doubt,
             ..book
         },
@@ -50,29 +51,23 @@ fn append<K: Keeper>(keeper: &mut K, book: Book, root: u32, line: &[u8], totals:
 }
 
 /// Writes a folded text in place of the ledger of a settled root, which has no room for a line. What is kept of the root then:
-/// where the write failed, the root is in doubt.
+/// if the write failed, the root is in doubt.
 fn fold<K: Keeper>(keeper: &mut K, limits: &Limits, book: Book, root: u32, totals: Totals) -> Book
     requires root { root < 4 }
     requires settled { book.standing ≡ Settled }
-    requires kept { AreSmall book.totals }
     requires small { AreSmall totals }
     ensures small { AreSmall result.totals }
     ensures short { length (folded limits.now totals) < 5120 }
     ensures book { (line : List ℕ) → has_room book.length line ≡ false → result ≡ lined_book line (folded limits.now totals) totals book result.standing }
     ensures files { (line : List ℕ) → Changes (OnFiles (λ files files'. OneLedger root files files' × LineLedger false line (folded limits.now totals) (ledger_at files root) result.standing (ledger_at files' root))) (K.told keeper.old) (K.told keeper.new) }
     ensures faults { HasCauses (fallen_by false false result.standing) (K.faults keeper.old) (K.faults keeper.new) }
-    ensures due { Changes (Spends (⊥) (K.faults keeper.old + K.append_faults keeper.old) (K.faults keeper.new + K.append_faults keeper.new)) (K.told keeper.old) (K.told keeper.new) }
+    ensures due { Due ⊥ (K.faults keeper.old) (K.append_faults keeper.old) (K.faults keeper.new) (K.append_faults keeper.new) (K.told keeper.old) (K.told keeper.new) }
     ensures appends { K.append_faults keeper.new ≡ K.append_faults keeper.old }
 {
-    let mut text = Text::new();
-    print_folded(limits, &totals, &mut text);
-    match keeper.install_ledger(root, text.as_slice()) {
-        Ok(()) => Book {
-            totals,
-            standing: Standing::Settled,
-            length: text.as_slice().len(),
-        },
+    match install_folded(keeper, root, limits, totals) {
+        Ok(folded) => folded,
         Err(_) => Book {
+            totals,
             standing: Standing::Doubt,
             ..book
         },
@@ -99,7 +94,7 @@ fn post<K: Keeper>(
     ensures small { AreSmall result.totals }
     ensures files { Changes (OnFiles (λ files files'. OneLedger root files files' × ChangedLedger change octets limits.now book (ledger_at files root) result.standing (ledger_at files' root))) (K.told keeper.old) (K.told keeper.new) }
     ensures faults { HasCauses (fallen_by false (has_room book.length (line_by change octets)) result.standing) (K.faults keeper.old) (K.faults keeper.new) }
-    ensures due { Changes (Spends (⊥) (K.faults keeper.old + K.append_faults keeper.old) (K.faults keeper.new + K.append_faults keeper.new)) (K.told keeper.old) (K.told keeper.new) }
+    ensures due { Due ⊥ (K.faults keeper.old) (K.append_faults keeper.old) (K.faults keeper.new) (K.append_faults keeper.new) (K.told keeper.old) (K.told keeper.new) }
     ensures appends { HasCauses (fallen_by true (has_room book.length (line_by change octets)) result.standing) (K.append_faults keeper.old) (K.append_faults keeper.new) }
 {
     let mut line = Text::new();
@@ -136,7 +131,7 @@ fn post_at<K: Keeper>(
     ensures others { (other : ℕ) → other ≢ root → book_at books.new.items other ≡ book_at books.old.items other }
     ensures files { Changes (OnFiles (λ files files'. OneLedger root files files' × LedgerLined (change_at roots.now (option_map (λ m. m.now) from.entry) (option_map (λ m. m.now) to.entry) root) octets (limits_at limits.now root) (book_at books.old.items root) (book_at books.new.items root).standing (ledger_at files root) (ledger_at files' root))) (K.told keeper.old) (K.told keeper.new) }
     ensures faults { HasCauses (fallen_at false (change_at roots.now (option_map (λ m. m.now) from.entry) (option_map (λ m. m.now) to.entry) root) octets (book_at books.old.items root).standing (book_at books.old.items root).length (book_at books.new.items root).standing) (K.faults keeper.old) (K.faults keeper.new) }
-    ensures due { Changes (Spends (⊥) (K.faults keeper.old + K.append_faults keeper.old) (K.faults keeper.new + K.append_faults keeper.new)) (K.told keeper.old) (K.told keeper.new) }
+    ensures due { Due ⊥ (K.faults keeper.old) (K.append_faults keeper.old) (K.faults keeper.new) (K.append_faults keeper.new) (K.told keeper.old) (K.told keeper.new) }
     ensures appends { HasCauses (fallen_at true (change_at roots.now (option_map (λ m. m.now) from.entry) (option_map (λ m. m.now) to.entry) root) octets (book_at books.old.items root).standing (book_at books.old.items root).length (book_at books.new.items root).standing) (K.append_faults keeper.old) (K.append_faults keeper.new) }
 {
     let book = books[root as usize];
@@ -151,7 +146,7 @@ fn post_at<K: Keeper>(
 
 /// Writes the lines of a message of so many octets that goes from one mailbox to another: one for each settled root whose usage
 /// changes. A root whose line, or the folded text in its place, can't be written is in doubt then.
-pub fn write_lines<K: Keeper>(
+pub(crate) fn write_lines<K: Keeper>(
     keeper: &mut K,
     roots: &Roots,
     limits: &[Limits],
@@ -165,12 +160,12 @@ pub fn write_lines<K: Keeper>(
     requires books { length books.old.items ≡ length roots.now }
     requires small { All (λ book. AreSmall book.totals) books.old.items }
     requires octets { octets < 1000000000000000000 }
-    requires long { (root : ℕ) → (book_at books.old.items root).standing ≡ Settled → IfSome (K.told keeper.old) (λ t. length (ledger_bytes t.files root) ≡ (book_at books.old.items root).length) }
+    requires long { AreLong books.old.items (K.told keeper.old) }
     ensures books { BooksLined (length roots.now) (change_at roots.now (option_map (λ m. m.now) from.entry) (option_map (λ m. m.now) to.entry)) octets limits.now books.old.items books.new.items }
     ensures small { All (λ book. AreSmall book.totals) books.new.items }
     ensures files { Changes (OnFiles (LedgersLined (length roots.now) (change_at roots.now (option_map (λ m. m.now) from.entry) (option_map (λ m. m.now) to.entry)) octets limits.now books.old.items books.new.items)) (K.told keeper.old) (K.told keeper.new) }
     ensures faults { HasCauses (fell_below (length roots.now) false (change_at roots.now (option_map (λ m. m.now) from.entry) (option_map (λ m. m.now) to.entry)) octets books.old.items books.new.items) (K.faults keeper.old) (K.faults keeper.new) }
-    ensures due { Changes (Spends (⊥) (K.faults keeper.old + K.append_faults keeper.old) (K.faults keeper.new + K.append_faults keeper.new)) (K.told keeper.old) (K.told keeper.new) }
+    ensures due { Due ⊥ (K.faults keeper.old) (K.append_faults keeper.old) (K.faults keeper.new) (K.append_faults keeper.new) (K.told keeper.old) (K.told keeper.new) }
     ensures appends { HasCauses (fell_below (length roots.now) true (change_at roots.now (option_map (λ m. m.now) from.entry) (option_map (λ m. m.now) to.entry)) octets books.old.items books.new.items) (K.append_faults keeper.old) (K.append_faults keeper.new) }
 {
     for root in 0..roots.count() {

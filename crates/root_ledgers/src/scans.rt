@@ -1,22 +1,50 @@
-// Fresh scans of several roots: each mailbox is listed once for all of them.
-ghost use Rattle.std.specs.Prelude.{◌≡◌, ◌+◌, ◌<◌, ℕ, true, false, is_some, length, IfOk, IfSome, IsErrOf};
+// Fresh scans of roots: each mailbox is listed once for all of them.
+ghost use Rattle.std.specs.Prelude.{◌≡◌, ◌<◌, ◌^◌, ℕ, true, false, is_some, length, IfOk, IfSome, IsErrOf};
 ghost use Rattle.quota_units.specs.Causes.{HasCause};
-ghost use Rattle.keeper.specs.Calls.{Changes, Spends};
-ghost use Rattle.std.specs.Option.{option_map};
+ghost use Rattle.quota_units.specs.Sums.{AreSmall, cut_totals};
 ghost use Rattle.quota_roots.specs.Governing.{governs_at};
-ghost use Rattle.quota_units.specs.Sums.{AreSmall};
-ghost use Rattle.root_ledgers.specs.Scanning.{AreScans, IsScan, ScansEach, counted, empty_scan, is_wanted, scan_at};
-ghost use Rattle.quota_roots.specs.Governing.{comes_under};
-ghost use Rattle.root_ledgers.specs.Settling.{book_at};
+ghost use Rattle.quota_roots.specs.RootSets.{has_root};
+ghost use Rattle.keeper.specs.Calls.{Changes, Due};
+ghost use Rattle.root_ledgers.specs.Scans.{size_of_file, sizes_of};
+ghost use Rattle.root_ledgers.specs.Scanning.{AreScans, IsScan, ScansEach, SomeScanned, counted, empty_scan, is_wanted, scan_at};
+ghost use Rattle.root_ledgers.specs.Settling.{StaysInDoubt, book_at};
 
 use crate::book::{Book, Standing};
-use crate::scan::totals_of_files;
-use keeper::{KeepError, Keeper};
-use quota_roots::{Roots, Setup};
-use quota_units::{Totals, cut_sum};
+use keeper::{FileRow, KeepError, Keeper};
+use message_names::{parse_name, size_of};
+use quota_roots::{RootSet, Roots};
+use quota_units::{Name, Totals, cut_sum};
 use std::alloc::{AllocError, Global};
 
-/// A scan that has counted nothing yet, where a root is in doubt and may be settled; none else.
+/// The octets of the message that a file tells.
+pub fn size_of_file(file: &FileRow) -> u64
+    ensures value { result ≡ size_of_file file.now }
+    ensures cut { result < 1000000000000000000 }
+    ensures small { result < 2 ^ 62 }
+{
+    size_of(&parse_name(file.name.as_slice()), file.length)
+}
+
+/// What the files add up to.
+pub fn totals_of_files(files: &[FileRow]) -> Totals
+    ensures value { result ≡ cut_totals (sizes_of files.now) (length files.now) }
+    ensures small { AreSmall result }
+{
+    let mut totals = Totals {
+        octets: 0,
+        count: 0,
+    };
+    for file in files {
+        let one = Totals {
+            octets: size_of_file(file),
+            count: 1,
+        };
+        totals = cut_sum(totals, one);
+    }
+    totals
+}
+
+/// A scan that has counted nothing yet, if a root is in doubt and may be settled; none else.
 fn empty_scan(may: bool, standing: Standing) -> Option<Totals>
     ensures value { result ≡ empty_scan (is_wanted may standing) }
     ensures scan { IsScan (is_wanted may standing) result }
@@ -30,21 +58,21 @@ fn empty_scan(may: bool, standing: Standing) -> Option<Totals>
     }
 }
 
-/// Scans that have counted nothing yet, of each root in doubt that a message comes under; none of the other roots.
+/// Scans that have counted nothing yet, of each root of the set that is in doubt; none of the other
+/// roots.
 fn empty_scans(
     alloc: Global,
     roots: &Roots,
     books: &[Book],
-    from: Option<&[u8]>,
-    to: &[u8],
+    set: RootSet,
 ) -> Result<Vec<Option<Totals>>, AllocError>
     requires { length books.now ≡ length roots.now }
-    ensures scans { IfOk result (λ scans. AreScans (length roots.now) (λ root. is_wanted (comes_under roots.now (option_map (λ m. m.now) from.entry) to.now root) (book_at books.now root).standing) scans.items) }
-    ensures empty { IfOk result (λ scans. (root : ℕ) → root < length roots.now → scan_at scans.items root ≡ empty_scan (is_wanted (comes_under roots.now (option_map (λ m. m.now) from.entry) to.now root) (book_at books.now root).standing)) }
+    ensures scans { IfOk result (λ scans. AreScans (length roots.now) (λ root. is_wanted (has_root set root) (book_at books.now root).standing) scans.items) }
+    ensures empty { IfOk result (λ scans. (root : ℕ) → root < length roots.now → scan_at scans.items root ≡ empty_scan (is_wanted (has_root set root) (book_at books.now root).standing)) }
 {
     let mut scans = Vec::new(alloc);
     for root in 0..roots.count() {
-        let may = roots.comes_under(root, from, to);
+        let may = set.has(root);
         scans.push(empty_scan(may, books[root as usize].standing))?;
     }
     Ok(scans)
@@ -53,6 +81,7 @@ fn empty_scans(
 /// Whether a root that is scanned governs the mailbox.
 fn is_counted(scans: &[Option<Totals>], roots: &Roots, mailbox: &[u8]) -> bool
     requires { length scans.now ≡ length roots.now }
+    ensures some { result ≡ true → SomeScanned scans.now }
     ensures none { result ≡ false → (root : ℕ) → is_some (scan_at scans.now root) ≡ true → governs_at roots.now root mailbox.now ≡ false }
 {
     for root in 0..roots.count() {
@@ -93,33 +122,34 @@ fn count_files(scans: &mut Vec<Option<Totals>>, roots: &Roots, mailbox: &[u8], f
     }
 }
 
-/// A fresh scan of each root in doubt that a message comes under which goes from one mailbox to another. Each mailbox that such a
-/// root governs is listed once.
+/// A fresh scan of each root of the set that is in doubt. Each mailbox that such a root governs is
+/// listed once.
 ///
 /// # Errors
 ///
-/// `Failed` where the store failed, and `NoMemory`.
-pub(crate) fn scan_coming<K: Keeper>(
+/// `Failed` if the store failed, and `NoMemory`.
+pub(crate) fn scan_each<K: Keeper>(
     alloc: Global,
     keeper: &mut K,
-    setup: &Setup,
+    roots: &Roots,
+    mailboxes: &[Name],
     books: &[Book],
-    from: Option<&[u8]>,
-    to: &[u8],
+    set: RootSet,
 ) -> Result<Vec<Option<Totals>>, KeepError>
-    requires { length books.now ≡ length setup.now.roots }
-    ensures files { Changes (ScansEach setup.now.roots setup.now.mailboxes result) (K.told keeper.old) (K.told keeper.new) }
-    ensures scans { IfOk result (λ scans. AreScans (length setup.now.roots) (λ root. is_wanted (comes_under setup.now.roots (option_map (λ m. m.now) from.entry) to.now root) (book_at books.now root).standing) scans.items) }
+    requires { length books.now ≡ length roots.now }
+    ensures files { Changes (ScansEach roots.now mailboxes.now result) (K.told keeper.old) (K.told keeper.new) }
+    ensures scans { IfOk result (λ scans. AreScans (length roots.now) (λ root. is_wanted (has_root set root) (book_at books.now root).standing) scans.items) }
+    ensures wanted { IsErrOf result KeepError.Failed → StaysInDoubt (has_root set) books.now }
     ensures cause { HasCause (IsErrOf result KeepError.Failed) (K.faults keeper.old) (K.faults keeper.new) }
-    ensures due { Changes (Spends (IsErrOf result KeepError.Failed) (K.faults keeper.old + K.append_faults keeper.old) (K.faults keeper.new + K.append_faults keeper.new)) (K.told keeper.old) (K.told keeper.new) }
+    ensures due { Due (IsErrOf result KeepError.Failed) (K.faults keeper.old) (K.append_faults keeper.old) (K.faults keeper.new) (K.append_faults keeper.new) (K.told keeper.old) (K.told keeper.new) }
     ensures appends { K.append_faults keeper.new ≡ K.append_faults keeper.old }
 {
-    let mut scans = empty_scans(alloc, &setup.roots, books, from, to)?;
-    for mailbox in setup.mailboxes.as_slice() {
-        if is_counted(&scans, &setup.roots, mailbox.as_slice()) {
+    let mut scans = empty_scans(alloc, roots, books, set)?;
+    for mailbox in mailboxes {
+        if is_counted(&scans, roots, mailbox.as_slice()) {
             let files = keeper.list(alloc, mailbox.as_slice())?;
             let totals = totals_of_files(&files);
-            count_files(&mut scans, &setup.roots, mailbox.as_slice(), totals);
+            count_files(&mut scans, roots, mailbox.as_slice(), totals);
         }
     }
     Ok(scans)

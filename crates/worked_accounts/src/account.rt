@@ -1,6 +1,6 @@
 // The calls of an account that is open, and what it leaves.
 ghost use Rattle.std.specs.Prelude.{◌<◌, []};
-ghost use Rattle.account_ledger.specs.Serving.{HasBytes, IsServed};
+ghost use Rattle.account_core.specs.Legality.{HasBytes, MayBeAsked};
 
 use crate::lines::{limits_of, name_of, number_of, shown_ledger, text_of};
 use crate::trouble::Trouble;
@@ -104,7 +104,7 @@ fn ask(alloc: Global, account: &mut Account, words: &[&[u8]]) -> Result<String, 
 
 /// What a call without octets is answered, as it is printed.
 fn serve(alloc: Global, account: &mut Account, call: Call) -> Result<String, Trouble>
-    requires served { IsServed call }
+    requires asked { MayBeAsked call }
     requires bytes { HasBytes call [] }
 {
     let answer = account.serve(alloc, 0, call, b"");

@@ -1,10 +1,9 @@
 use Rattle.std.proofs.Common.{◌+◌, true, false}
 use Rattle.std.specs.List.{All}
 use Rattle.std.specs.Option.{option_map}
-use Rattle.keeper.specs.Calls.{Changes, Spends}
+use Rattle.keeper.specs.Calls.{Changes, OnFiles, Spends}
 use Rattle.root_ledgers.specs.Lines.{change_at, BooksLined, LedgersLined, HasCauses, fell_below}
 use Rattle.quota_units.specs.Sums.{AreSmall}
-use Rattle.root_ledgers.specs.Settling.{OnFiles}
 use Rattle.root_ledgers.proofs.lines.write_lines.Given as goal
 
 abbrev pub invariant-loop-root : goal.invariant-loop-root

@@ -1,22 +1,25 @@
-use Rattle.std.proofs.Common.{◌∙◌, refl, rules}
+use Rattle.std.proofs.Common.{refl, ap, ◌∙◌, rules}
 use Rattle.account_ledger.proofs.Opened.{order_opened}
-use Rattle.account_ledger.proofs.Stating.{standing_of}
+use Rattle.account_ledger.proofs.Showing.{standing_of}
 use Rattle.account_ledger.proofs.state.AccountState.open.Goals as goal
 
 pub invariant_of-state : goal.invariant_of-state
 invariant_of-state g c =
-    let n = c.admit_files.new in
-    rw (c.of-opened.ensures, c.new.ensures.items) (order_opened (g.K.Keeper.told c.args.keeper) (g.K.Keeper.told n.keeper) (g.K.Keeper.faults c.args.keeper) (g.K.Keeper.faults n.keeper)
-    c.args.setup c.args.epoch c.in-Ok-admit_files.limits.items c.in-Ok.books.items c.requires c.admit_files.ensures.cause.later
-    (c.in-Ok-admit_files.ensures.count ∙ c.requires.limited) (c.in-Ok.ensures.count ∙ c.count.ensures.value) c.in-Ok.ensures.doubt c.in-Ok.ensures.small c.in-Ok-admit_files.ensures.files)
+    let k = c.args.keeper in
+    let n = c.admit_files.new.keeper in
+    rw (c.of-opened.ensures, c.of-as_set_up.ensures, c.new.ensures.items)
+    (order_opened (g.K.Keeper.told k) (g.K.Keeper.told n) (g.K.Keeper.faults k) (g.K.Keeper.faults n) (g.K.Keeper.append_faults n) (g.K.Keeper.lists n) c.args.setup c.args.epoch
+    c.in-Ok-in_doubt.ledgers.limits c.in-Ok-in_doubt.ledgers.books c.requires c.in-Ok.ensures.cause.later c.in-Ok-in_doubt.ensures.doubt (search rules))
 
 pub returns-clause-opened : goal.returns-clause-opened
 returns-clause-opened g c = record {
-  setup_is = refl;
+  roots = refl;
+  journal = refl;
   epoch_is = refl;
-  opening = rw c.of-opened.ensures refl;
+  opening = rw (c.of-opened.ensures, c.of-as_set_up.ensures) refl;
+  mailboxes = refl;
   history = c.new.ensures.items;
-  doubt = λ root. standing_of c.in-Ok.books.items root ∙ c.in-Ok.ensures.doubt root;
-  first_faults = rw c.of-opened.ensures refl;
-  faults_are = c.in-Ok-admit_files.ensures.cause.kept (search rules);
+  doubt = λ root. standing_of c.in-Ok-in_doubt.ledgers.books root ∙ c.in-Ok-in_doubt.ensures.doubt root;
+  first_faults = ap g.K.Keeper.faults c.of-opened.ensures;
+  faults_are = c.in-Ok.ensures.cause.kept (search rules);
 }
