@@ -1,9 +1,10 @@
 #!/usr/bin/env python3
 """Checks that the documents follow the crates, and lists what they lack. It proves nothing and is no part of the gate.
 
-- README.md, docs/LAYERS.md and docs/PROVED.md name each crate of crates.txt, the two latter once and in that order, and
-  LAYERS.md says of each what crates.txt says that it stands on.
-- docs/DEFINITIONS.md has each definition that the contract of a public function names.
+- docs/LAYERS.md and docs/PROVED.md have each crate of crates.txt once and in that order, and LAYERS.md says of each what
+  crates.txt says that it stands on.
+- docs/DEFINITIONS.md has each definition that the contract of a public function names, and what docs/GLOSSARY.md points at
+  is there.
 - No line of a document is longer than 200 characters, and no cell of README.md longer than 100.
 """
 
@@ -107,6 +108,13 @@ def check_definitions(below):
                 yield f"docs/DEFINITIONS.md lacks `{word}`, which a contract of {crate} names"
 
 
+def check_glossary():
+    for path in re.findall(r"`(\w+/(?:src|specs)/[\w.]+)`", read("docs", "GLOSSARY.md")):
+        file = os.path.join(TOP, "crates", path)
+        if not os.path.exists(file) and not os.path.exists(file + ".antt"):
+            yield f"docs/GLOSSARY.md names {path}, which is not there"
+
+
 def check_lines():
     names = ["README.md"] + [os.path.join("docs", name) for name in sorted(os.listdir(os.path.join(TOP, "docs")))]
     for name in names:
@@ -121,7 +129,7 @@ def check_lines():
 
 def main():
     below = crates()
-    faults = [*check_layers(below), *check_proved(below), *check_definitions(below), *check_lines()]
+    faults = [*check_layers(below), *check_proved(below), *check_definitions(below), *check_glossary(), *check_lines()]
     for fault in faults:
         print(fault)
     print(f"{len(faults)} faults in the documents")
