@@ -1,40 +1,55 @@
-// The calls of an account over a folder, by their words.
-ghost use Rattle.std.specs.Prelude.{[]};
-ghost use Rattle.account_ledger.specs.Serving.{HasBytes, IsServed};
+// The calls of an account, by their words.
+ghost use Rattle.std.specs.Prelude.{[], IfOk};
+ghost use Rattle.account_core.specs.Legality.{HasBytes, MayBeAsked};
 
 use account_core::{Call, Reply, StepError};
 use account_ledger::{AccountState, Standing};
-use keeper_fs::FsKeeper;
+use keeper::Keeper;
 use quota_units::{Flags, Limits, Name};
 use std::alloc::Global;
 use std::test::Fail;
-
-pub(crate) type Account = AccountState<FsKeeper<HostRuntime>>;
 
 /// The longest message, in octets.
 const MAX_MESSAGE: u64 = 67108864;
 
 /// Does the step that these words say, and gives its answer.
-pub(crate) fn answer(
+fn answer<K: Keeper>(
     alloc: Global,
-    account: &mut Account,
+    account: &mut AccountState<K>,
     words: [&str; 4],
 ) -> Result<String, Fail> {
     match words {
         ["deliver", mailbox, octets, flags] => deliver(alloc, account, mailbox, octets, flags),
         ["usage", root, ..] => usage(alloc, account, root),
         ["standings", ..] => standings(alloc, account),
-        ["faults", ..] => {
-            let keeper = account.keeper();
-            Ok(format!(in alloc; "{} {}", keeper.faults(), keeper.append_faults())?)
-        }
         _ => serve(alloc, account, call_of(alloc, words)?),
     }
 }
 
+/// Does steps and checks their answers.
+pub(crate) fn check_steps<K: Keeper>(
+    alloc: Global,
+    account: &mut AccountState<K>,
+    steps: &str,
+) -> Result<(), Fail> {
+    for row in steps.lines() {
+        let (step, expected) = row.split_once(" => ").unwrap_or((row, ""));
+        let mut words = step.split(' ');
+        let verb = words.next().unwrap_or("");
+        let first = words.next().unwrap_or("");
+        let second = words.next().unwrap_or("");
+        let third = words.next().unwrap_or("");
+        let found = answer(alloc, account, [verb, first, second, third])?;
+        if found.as_str() != expected {
+            return Err(format!(in alloc; "{step} => {found}")?.into());
+        }
+    }
+    Ok(())
+}
+
 /// The call that these words say; `-` is the empty name, no flag and no limit.
 fn call_of(alloc: Global, words: [&str; 4]) -> Result<Call, Fail>
-    ensures served { IfOk result IsServed }
+    ensures served { IfOk result MayBeAsked }
     ensures bytes { IfOk result (λ call. HasBytes call []) }
 {
     let [verb, first, second, third] = words;
@@ -80,9 +95,9 @@ fn limit_of(word: &str) -> Result<Option<u64>, Fail> {
 }
 
 /// Delivers a message of so many octets, each `x`.
-fn deliver(
+fn deliver<K: Keeper>(
     alloc: Global,
-    account: &mut Account,
+    account: &mut AccountState<K>,
     mailbox: &str,
     octets: &str,
     flags: &str,
@@ -102,8 +117,12 @@ fn deliver(
 }
 
 /// What a call without octets is answered.
-fn serve(alloc: Global, account: &mut Account, call: Call) -> Result<String, Fail>
-    requires served { IsServed call }
+fn serve<K: Keeper>(
+    alloc: Global,
+    account: &mut AccountState<K>,
+    call: Call,
+) -> Result<String, Fail>
+    requires served { MayBeAsked call }
     requires bytes { HasBytes call [] }
 {
     let answer = account.serve(alloc, 0, call, b"");
@@ -124,7 +143,11 @@ fn shown(alloc: Global, answer: &Result<Reply, StepError>) -> Result<String, Fai
 }
 
 /// The octets and the messages of a root's usage.
-fn usage(alloc: Global, account: &mut Account, root: &str) -> Result<String, Fail> {
+fn usage<K: Keeper>(
+    alloc: Global,
+    account: &mut AccountState<K>,
+    root: &str,
+) -> Result<String, Fail> {
     let root = root.parse::<u32>()?;
     if root >= account.root_count() {
         return Err("no such root".into());
@@ -136,7 +159,7 @@ fn usage(alloc: Global, account: &mut Account, root: &str) -> Result<String, Fai
 }
 
 /// The standing of each root.
-fn standings(alloc: Global, account: &Account) -> Result<String, Fail> {
+fn standings<K: Keeper>(alloc: Global, account: &AccountState<K>) -> Result<String, Fail> {
     let mut text = String::new(alloc);
     for root in 0..account.root_count() {
         text.push_str(match account.standing(root) {

@@ -1,9 +1,9 @@
 // Accounts in folders, closed and opened again.
 
-use crate::calls::{Account, answer};
+use crate::calls::check_steps;
 use account_ledger::{AccountState, OpenFault};
 use keeper::Stores;
-use keeper_fs::FsStores;
+use keeper_fs::{FsKeeper, FsStores};
 use quota_roots::{LimitsList, NameList, RootSpec, Roots, Setup};
 use quota_units::{Limits, Name};
 use std::alloc::Global;
@@ -32,8 +32,7 @@ limits lists - 7 => 60 1 of None Some(7)
 deliver INBOX 99491 - => Over { root: 0, resource: Storage }
 usage 0 => 510 3
 usage 1 => 60 1
-standings => settled;settled;
-faults => 0 0";
+standings => settled;settled;";
 
 /// The files that are left after it.
 const FIRST_FILES: [(&str, &str); 4] = [
@@ -59,8 +58,7 @@ deliver INBOX 10 - => Delivered { number: 1 }
 mark INBOX 1700000000.1.quotad - => Marked
 move INBOX 1700000000.1.quotad Lists => Moved
 quota - => 520 4 of Some(100000) Some(10)
-usage 1 => 460 2
-faults => 0 0";
+usage 1 => 460 2";
 
 const SECOND_FILES: [(&str, &str); 4] = [
     (
@@ -79,6 +77,8 @@ const SECOND_LEDGERS: [(&str, &str); 2] = [
     ("ann/maildirsize", "100000S,10C;510_3;10_1;"),
     ("ann/maildirsize.1", "7C;60_1;400_1;"),
 ];
+
+type Account = AccountState<FsKeeper<HostRuntime>>;
 
 fn limits(octets: Option<u64>, count: Option<u64>) -> Result<Limits, Fail> {
     Ok(Limits::new(octets, count).ok_or("limits in range")?)
@@ -125,23 +125,28 @@ fn open(alloc: Global, stores: &mut FsStores<HostRuntime>, second: u64) -> Resul
     }
 }
 
-/// Does steps and checks their answers.
-fn check_steps(
-    rt: &(impl Abort + AllocGlobal),
-    account: &mut Account,
-    steps: &str,
-) -> Result<(), Fail> {
-    for row in steps.lines() {
-        let (step, expected) = row.split_once(" => ").unwrap_or((row, ""));
-        let mut words = step.split(' ');
-        let verb = words.next().unwrap_or("");
-        let first = words.next().unwrap_or("");
-        let second = words.next().unwrap_or("");
-        let third = words.next().unwrap_or("");
-        let found = answer(rt.alloc(), account, [verb, first, second, third])?;
-        assert_eq!(rt; found.as_str(), expected, "{step}");
+/// Closes the account, and gives the keeper's counts of faults, that of appends last.
+fn close(stores: &mut FsStores<HostRuntime>, account: Account) -> (u64, u64) {
+    let keeper = account.into_keeper();
+    let faults = (keeper.faults(), keeper.append_faults());
+    stores.close(b"ann", keeper);
+    faults
+}
+
+/// The names that stand in a folder, in their order.
+fn names_in(rt: &(impl Files + AllocGlobal + Clone + Drop), folder: &str) -> Result<String, Fail> {
+    let alloc = rt.alloc();
+    let mut names = Vec::new(alloc);
+    for entry in fs::read_dir(rt, folder)? {
+        let entry = entry?;
+        names.push(format!(in alloc; "{};", entry.file_name())?)?;
     }
-    Ok(())
+    names.sort()?;
+    let mut shown = String::new(alloc);
+    for name in names.iter() {
+        shown.push_str(name.as_str())?;
+    }
+    Ok(shown)
 }
 
 /// Checks which names stand in folders.
@@ -149,19 +154,10 @@ fn check_folders(
     rt: &(impl Abort + Files + AllocGlobal + Clone + Drop),
     folders: &[(&str, &str)],
 ) -> Result<(), Fail> {
-    let alloc = rt.alloc();
     for (folder, expected) in folders {
-        let path = format!(in alloc; "mail/{folder}")?;
-        let mut names = Vec::new(alloc);
-        for entry in fs::read_dir(rt, path.as_str())? {
-            names.push(format!(in alloc; "{};", entry?.file_name())?)?;
-        }
-        names.sort()?;
-        let mut shown = String::new(alloc);
-        for name in names.iter() {
-            shown.push_str(name.as_str())?;
-        }
-        assert_eq!(rt; shown.as_str(), *expected, "{folder}");
+        let path = format!(in rt.alloc(); "mail/{folder}")?;
+        let names = names_in(rt, path.as_str())?;
+        assert_eq!(rt; names.as_str(), *expected, "{folder}");
     }
     Ok(())
 }
@@ -196,8 +192,8 @@ fn an_account_is_as_it_was_when_it_is_opened_again(rt: HostRuntime) -> Result<()
         (1700000001, SECOND, SECOND_FILES, SECOND_LEDGERS),
     ] {
         let mut account = open(alloc, &mut stores, second)?;
-        check_steps(&rt, &mut account, steps)?;
-        stores.close(b"ann", account.into_keeper());
+        check_steps(alloc, &mut account, steps)?;
+        assert_eq!(rt; close(&mut stores, account), (0, 0));
         check_folders(&rt, &folders)?;
         check_files(&rt, &ledgers)?;
     }
@@ -243,40 +239,37 @@ fn put_ledger(
 
 /// The limits of the setup.
 const OWN: &str = "quota - => 7 1 of Some(100000) Some(10)
-standings => settled;doubt;
-faults => 0 0";
+standings => settled;doubt;";
 
 /// Limits of a ledger.
 const OTHER: &str = "quota - => 7 1 of Some(900) Some(9)
-standings => settled;doubt;
-faults => 0 0";
+standings => settled;doubt;";
 
 /// A folder stays in the place of the ledger.
 const STUCK: &str = "quota - => Store
-standings => doubt;doubt;
-faults => 1 0";
+standings => doubt;doubt;";
 
 #[test]
 fn no_ledger_keeps_an_account_from_being_opened(rt: HostRuntime) -> Result<(), Fail> {
     let alloc = rt.alloc();
-    for (found, steps, ledger) in [
-        (Found::Text("900S,9C\n12"), OTHER, "900S,9C;7_1;"),
-        (Found::Text("900S,9C\n1 1\nLONG"), OTHER, "900S,9C;7_1;"),
-        (Found::Text("\u{e9}\0garbage\n"), OWN, "100000S,10C;7_1;"),
-        (Found::Text("1S,LONG1S"), OWN, "100000S,10C;7_1;"),
-        (Found::Link("/dev/zero"), OWN, "100000S,10C;7_1;"),
-        (Found::Link("maildirsize"), OWN, "100000S,10C;7_1;"),
-        (Found::Pipe, OWN, "100000S,10C;7_1;"),
-        (Found::Nothing, OWN, "100000S,10C;7_1;"),
-        (Found::Folder, STUCK, ""),
+    for (found, steps, ledger, faults) in [
+        (Found::Text("900S,9C\n12"), OTHER, "900S,9C;7_1;", 0),
+        (Found::Text("900S,9C\n1 1\nLONG"), OTHER, "900S,9C;7_1;", 0),
+        (Found::Text("\u{e9}\0garbage\n"), OWN, "100000S,10C;7_1;", 0),
+        (Found::Text("1S,LONG1S"), OWN, "100000S,10C;7_1;", 0),
+        (Found::Link("/dev/zero"), OWN, "100000S,10C;7_1;", 0),
+        (Found::Link("maildirsize"), OWN, "100000S,10C;7_1;", 0),
+        (Found::Pipe, OWN, "100000S,10C;7_1;", 0),
+        (Found::Nothing, OWN, "100000S,10C;7_1;", 0),
+        (Found::Folder, STUCK, "", 1),
     ] {
         let mut stores = stores(rt)?;
         fs::create_dir_all(&rt, "mail/ann/new")?;
         fs::write(&rt, "mail/ann/new/1.mx", "1234567")?;
         let _kept = put_ledger(&rt, &found)?;
         let mut account = open(alloc, &mut stores, 1700000000)?;
-        check_steps(&rt, &mut account, steps)?;
-        stores.close(b"ann", account.into_keeper());
+        check_steps(alloc, &mut account, steps)?;
+        assert_eq!(rt; close(&mut stores, account), (faults, 0));
         if !ledger.is_empty() {
             check_files(&rt, &[("ann/maildirsize", ledger)])?;
         }
@@ -292,17 +285,14 @@ fn a_ledger_that_goes_away_is_written_anew_with_its_limits(rt: HostRuntime) -> R
     let mut account = open(alloc, &mut stores, 1700000000)?;
     let before = "limits - 900 9 => 0 0 of Some(900) Some(9)
 deliver INBOX 100 - => Delivered { number: 1 }
-standings => settled;doubt;
-faults => 0 0";
-    check_steps(&rt, &mut account, before)?;
+standings => settled;doubt;";
+    check_steps(alloc, &mut account, before)?;
     fs::remove_file(&rt, "mail/ann/maildirsize")?;
     let after = "deliver INBOX 10 - => Delivered { number: 2 }
 standings => doubt;doubt;
-faults => 0 1
-usage 0 => 110 2
-faults => 0 1";
-    check_steps(&rt, &mut account, after)?;
-    stores.close(b"ann", account.into_keeper());
+usage 0 => 110 2";
+    check_steps(alloc, &mut account, after)?;
+    assert_eq!(rt; close(&mut stores, account), (0, 1));
     assert_eq!(rt; stores.faults(), 0);
     check_files(&rt, &[("ann/maildirsize", "900S,9C;110_2;")])?;
     fs::remove_dir_all(&rt, "mail")?;
