@@ -56,7 +56,7 @@ fn main(rt: HostRuntime) -> io::Result<()> {
     let Some(folder) = env::args(&rt)?.nth(2) else {
         return Ok(());
     };
-    match put_all(rt.clone(), folder.as_str(), count) {
+    match put_all(rt, folder.as_str(), count) {
         Ok(count) => println!(rt; "{count}")?,
         Err(why) => println!(rt; "{why}")?,
     }
