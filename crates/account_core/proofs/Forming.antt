@@ -18,7 +18,7 @@ use Rattle.account_core.specs.declared.calls.RootRow.{RootRow}
 use Rattle.account_core.specs.Account.{Account, Message}
 use Rattle.account_core.specs.Messages.{named_message}
 use Rattle.account_core.specs.Scanning.{part_of}
-use Rattle.account_core.specs.Machine.{has_mailbox, if_message, usages, over_of, over_in, over_or, rows_from, rows, named, quota_reply, limits_reply, moving_reply, placing_reply}
+use Rattle.account_core.specs.Machine.{has_mailbox, if_message, usages, over_of, over_in, over_or, rows_from, rows, named, quota_reply, limits_reply, moving_reply, move_between_reply}
 use Rattle.account_core.specs.Forms.{is_answer, HasForm, RepliesHaveForm}
 
 -- the first root that is over is one of those that are looked at
@@ -100,7 +100,7 @@ module _ (roots : List RootSpec) (account : Account) where
   moving_form from base to None = record { kind = refl; names = tt }
   moving_form from base to (Some message) = by (bytes_eq from to)
     where
-      by : (same : Bool) → HasForm roots account.mailboxes (Move from base to) (cond same Moved (placing_reply roots account from base to message))
+      by : (same : Bool) → HasForm roots account.mailboxes (Move from base to) (cond same Moved (move_between_reply roots account from base to message))
       by true = record { kind = refl; names = tt }
       by false = placing_form from base to message (is_some (named_message to base account.messages))
 

@@ -15,7 +15,7 @@ use Rattle.account_core.specs.declared.calls.Reply.{Reply}
 use Rattle.account_core.specs.declared.calls.Reply.TheVariants.{NoMailbox, NoMessage, NameTaken, Moved}
 use Rattle.account_core.specs.Account.{Account, Message, counted, usage}
 use Rattle.account_core.specs.Messages.{named_message, changed, with_mailbox}
-use Rattle.account_core.specs.Machine.{usages, over_of, over_or, moving_reply, placing_reply, move_reply, moved_after, has_mailbox}
+use Rattle.account_core.specs.Machine.{usages, over_of, over_or, moving_reply, move_between_reply, move_reply, moved_after, has_mailbox}
 use Rattle.account_core.specs.History.{replay, reply, entry_of}
 use Rattle.account_core.specs.Legality.{AreWithin, IsOver, MayMove, NoneBrokenByMoves, MoveOverWhereNoFit}
 use Rattle.account_core.proofs.Replaying.{replay_more}
@@ -33,13 +33,13 @@ module _ (Is : Reply → Type 0) (mailbox : Is NoMailbox → ⊥) (no_message : 
   not_taken (Some message) given is = absurd (taken is)
 
   with_message : (o : Option Message) → Is (moving_reply roots account from base to o)
-      → (message : Message) × (o ≡ Some message) × Is (cond (bytes_eq from to) Moved (placing_reply roots account from base to message))
+      → (message : Message) × (o ≡ Some message) × Is (cond (bytes_eq from to) Moved (move_between_reply roots account from base to message))
   with_message None is = absurd (no_message is)
   with_message (Some message) is = (message, refl, is)
 
   looked_at : Is (move_reply roots account from base to)
       → (message : Message) × (has_mailbox account from ≡ true) × (has_mailbox account to ≡ true) × (named_message from base account.messages ≡ Some message)
-      × Is (cond (bytes_eq from to) Moved (placing_reply roots account from base to message))
+      × Is (cond (bytes_eq from to) Moved (move_between_reply roots account from base to message))
   looked_at is =
       let source = in_mailbox (has_mailbox account from) _ is in
       let target = in_mailbox (has_mailbox account to) _ source.1 in
@@ -78,7 +78,7 @@ move_is roots account from base to message may =
     ap (λ b. cond b (cond (has_mailbox account to) (moving_reply roots account from base to (named_message from base account.messages)) NoMailbox) NoMailbox) may.source
     ∙ ap (λ b. cond b (moving_reply roots account from base to (named_message from base account.messages)) NoMailbox) may.target
     ∙ ap (λ o. moving_reply roots account from base to o) may.there
-    ∙ ap (λ b. cond b Moved (placing_reply roots account from base to message)) (differ_back from to may.apart)
+    ∙ ap (λ b. cond b Moved (move_between_reply roots account from base to message)) (differ_back from to may.apart)
     ∙ ap (λ (o : Option Message). cond (is_some o) NameTaken (over_or (over_of roots account (gaining roots from to) message.octets) Moved)) may.free
 
 pub move_over_where_no_fit : MoveOverWhereNoFit
@@ -146,7 +146,7 @@ module _ (roots : List RootSpec) (opening : Account) (history : List Entry) (cal
   moved_fits given apart =
       let seen = looked_at IsMoved (λ e. cc) (λ e. cc) (λ e. cc) roots before from base to given in
       let over = over_of roots before (gaining roots from to) seen.0.octets in
-      let placed = placed_is (bytes_eq from to) (placing_reply roots before from base to seen.0) apart seen.4 in
+      let placed = placed_is (bytes_eq from to) (move_between_reply roots before from base to seen.0) apart seen.4 in
       let fitting = not_taken IsMoved (λ e. cc) (λ e. cc) (λ e. cc) roots before from base to (named_message to base before.messages) (over_or over Moved) placed in
       (seen.0, seen.3, none_first over fitting.1)
 

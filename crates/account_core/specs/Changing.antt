@@ -43,14 +43,14 @@ marked_after account mailbox base flags Marked = record account { messages = cha
 marked_after account mailbox base flags given = account
 
 -- the answer to a move to another mailbox, where the message is there
-abbrev pub placing_reply : List RootSpec → Account → List ℕ → List ℕ → List ℕ → Message → Reply
-placing_reply roots account from base to message =
+abbrev pub move_between_reply : List RootSpec → Account → List ℕ → List ℕ → List ℕ → Message → Reply
+move_between_reply roots account from base to message =
     if is_some (named_message to base account.messages) then NameTaken else over_or (over_of roots account (gaining roots from to) message.octets) Moved
 
 -- the answer to a move, where the mailboxes are there
 abbrev pub moving_reply : List RootSpec → Account → List ℕ → List ℕ → List ℕ → Option Message → Reply
 moving_reply roots account from base to None = NoMessage
-moving_reply roots account from base to (Some message) = if bytes_eq from to then Moved else placing_reply roots account from base to message
+moving_reply roots account from base to (Some message) = if bytes_eq from to then Moved else move_between_reply roots account from base to message
 
 -- the answer to a move
 abbrev pub move_reply : List RootSpec → Account → List ℕ → List ℕ → List ℕ → Reply

@@ -3,7 +3,7 @@ use Rattle.std.specs.Prelude.{ℕ, ◌+◌, List, [], ◌∷◌, Option, Some, N
 use Rattle.quota_units.specs.Limiting.{LimitNumbers}
 use Rattle.quota_roots.specs.declared.root.RootSpec.{RootSpec}
 use Rattle.quota_roots.specs.Governing.{governs}
-use Rattle.quota_roots.specs.RootLists.{place_of}
+use Rattle.quota_roots.specs.RootLists.{root_named}
 use Rattle.account_core.specs.declared.calls.Call.{Call}
 use Rattle.account_core.specs.declared.calls.Call.TheVariants.{Deliver, Check, Remove, Mark, Move, Quota as QuotaCall, SetLimits, Roots as RootsCall, Status, ScanBegin, ScanPart, Install}
 use Rattle.account_core.specs.declared.calls.RootRow.{RootRow}
@@ -13,7 +13,7 @@ use Rattle.account_core.specs.Account.{Account, usage}
 use Rattle.account_core.specs.Scanning.{status_reply, begun_reply, part_reply, install_reply}
 pub use Rattle.quota_roots.specs.Governing.{gaining}
 pub use Rattle.account_core.specs.Refusals.{has_mailbox, in_mailbox, if_message, usages, over_of, over_in, over_or}
-pub use Rattle.account_core.specs.Changing.{delivery_reply, delivered_message, delivered_after, message_reply, removed_after, marked_after, placing_reply, moving_reply, move_reply, moved_after}
+pub use Rattle.account_core.specs.Changing.{delivery_reply, delivered_message, delivered_after, message_reply, removed_after, marked_after, move_between_reply, moving_reply, move_reply, moved_after}
 
 -- a root's number, usage and limits
 abbrev pub row_of : Account → ℕ → RootSpec → LimitNumbers → RootRow
@@ -73,7 +73,7 @@ step roots account (Remove mailbox base) = removed_after account mailbox base (m
 step roots account (Mark mailbox base flags) = marked_after account mailbox base flags (message_reply account mailbox base Marked)
 step roots account (Move from base to) = moved_after account from base to (move_reply roots account from base to)
 step roots account (QuotaCall name) = account
-step roots account (SetLimits name limits) = record account { limits = limits_after (place_of roots name) limits account.limits }
+step roots account (SetLimits name limits) = record account { limits = limits_after (root_named roots name) limits account.limits }
 step roots account (RootsCall mailbox) = account
 step roots account (Status mailbox) = account
 step roots account ScanBegin = account

@@ -9,8 +9,8 @@ use Rattle.quota_units.specs.Limiting.{LimitNumbers}
 use Rattle.quota_units.specs.declared.flags.Flags.{Flags}
 use Rattle.quota_units.specs.declared.resource.Resource.{Resource}
 use Rattle.quota_units.specs.declared.totals.Totals.{Totals}
-use Rattle.quota_roots.specs.Governing.{coming, comes_under, governing, governs_at}
-use Rattle.quota_roots.specs.RootLists.{place_of}
+use Rattle.quota_roots.specs.Governing.{coming, gains_by, governing, governs_at}
+use Rattle.quota_roots.specs.RootLists.{root_named}
 use Rattle.quota_roots.specs.RootSets.{has_root}
 use Rattle.quota_roots.specs.declared.root.RootSpec.{RootSpec}
 use Rattle.keeper.specs.Calls.{Told}
@@ -32,7 +32,7 @@ use Rattle.root_ledgers.specs.declared.book.Standing.TheVariants.{Settled, Doubt
 use Rattle.root_ledgers.specs.Settling.{MarksOne, StaysInDoubt, book_at, standings_of}
 use Rattle.account_ledger.specs.Rows.{IsInside, IsVerdict, kept_rows}
 use Rattle.account_ledger.specs.Stores.{Store, standing_at, usage_at}
-use Rattle.account_ledger.specs.Settling.{AreSettled, LedgersStay, SettledFor, StayCalm, is_place, needs}
+use Rattle.account_ledger.specs.Settling.{AreSettled, LedgersStay, SettledFor, LedgersAndFaultsStay, is_root, needs}
 use Rattle.account_ledger.specs.Writing.{Spares, is_filing, misses}
 use Rattle.account_ledger.specs.Lives.{IsWhole, Live, Prepares, Shows, Steps, store_of}
 use Rattle.account_ledger.proofs.Delivering.{over_leaves, over_replied}
@@ -54,7 +54,7 @@ roots_prepared failed may l m prep = ap (λ (x : Live). x.roots) prep.same
 
 -- a check
 pub check_answered : (l m : Live) (octets : ℕ) (set : List ℕ) (verdict : Verdict) (given : Reply) (failed : Type 0) → ¬ failed → set ≡ coming l.roots None (codes "INBOX")
-    → ((root : ℕ) → has_root set root ≡ comes_under l.roots None (codes "INBOX") root) → Prepares failed (has_root set) l m → IsWhole m → AreSettled (has_root set) (store_of m)
+    → ((root : ℕ) → has_root set root ≡ gains_by l.roots None (codes "INBOX") root) → Prepares failed (has_root set) l m → IsWhole m → AreSettled (has_root set) (store_of m)
     → ((account : Account) → Shows m account → IsVerdict (over_of m.roots account set octets) verdict)
     → ((over : Option (ℕ × Resource)) → IsVerdict over verdict → given ≡ over_or over Fits) → IsInside (length m.roots) verdict
     → ((roots : List RootSpec) (mailboxes : List (List ℕ)) (n : ℕ) → IsInside (length roots) verdict → HasForm roots mailboxes (Check n) given) → misses given ≡ false
@@ -82,17 +82,17 @@ module _ (l m : Live) (failed : Type 0) (not : ¬ failed) (may : ℕ → Bool) (
       (settled_totals m account (shown_m account shows) root (subst (λ roots. root < length roots) (sym roots_m) inside) (settled root is))
 
   -- a question on the quota of a root
-  pub quota_answered : (name : List ℕ) (root : ℕ) (totals : Totals) (limits : LimitNumbers) → place_of l.roots name ≡ Some root → root < length l.roots → ((r : ℕ) → may r ≡ nat_eq root r)
+  pub quota_answered : (name : List ℕ) (root : ℕ) (totals : Totals) (limits : LimitNumbers) → root_named l.roots name ≡ Some root → root < length l.roots → ((r : ℕ) → may r ≡ nat_eq root r)
       → ((account : Account) → Shows l account → totals ≡ usage_at l.roots root account) → limits ≡ limits_at m.limits root
       → Steps (Quota name) [] (Ok (QuotaReply (record { root = root; octets = totals.octets; count = totals.count; limits = limits }))) l m
   quota_answered name root totals limits place inside one used own =
-      let same = λ (r : ℕ). one r ∙ ap (λ o. is_place o r) (sym place) in
+      let same = λ (r : ℕ). one r ∙ ap (λ o. is_root o r) (sym place) in
       let own_l : limits ≡ limits_at l.limits root = own ∙ ap (λ (x : Live). limits_at x.limits root) prep.same in
       steps_answered (Quota name) [] _ failed l m not (prepares_may failed may (needs l.roots (Quota name)) l m same prep) whole (settled_by may (needs l.roots (Quota name)) m same settled)
       (λ account shows. rw own_l (quota_replied l account shows name root totals place inside (used account shows)))
       (record { kind = refl; names = inside }) (λ account shows. refl) refl (λ rows. refl) tt
 
-  module _ (mailbox : List ℕ) (comes : (r : ℕ) → may r ≡ comes_under l.roots None mailbox r) where
+  module _ (mailbox : List ℕ) (comes : (r : ℕ) → may r ≡ gains_by l.roots None mailbox r) where
     -- the roots of a mailbox
     pub rows_answered : (rows : List RootRow) → rows ≡ kept_rows m.roots m.limits m.books mailbox → All (λ (row : RootRow). row.root < length m.roots) rows → Steps (RootsCall mailbox) [] (Ok (RootsReply rows)) l m
     rows_answered rows are inside =
@@ -122,7 +122,7 @@ module _ (l m : Live) (failed : Type 0) (not : ¬ failed) (may : ℕ → Bool) (
           (λ account shows. over_leaves l account shows mailbox octets flags there root resource (judged_l account shows ∙ some)) refl (λ rows. refl) tt
 
 -- a call that puts or renames a file found no memory
-pub spared_filed : (call : Call) (result : Result Reply StepError) (l m l' : Live) → is_filing call ≡ true → AreSettled (needs l.roots call) (store_of m) → (result ≡ Err NoMemory → StayCalm (store_of m) (store_of l'))
+pub spared_filed : (call : Call) (result : Result Reply StepError) (l m l' : Live) → is_filing call ≡ true → AreSettled (needs l.roots call) (store_of m) → (result ≡ Err NoMemory → LedgersAndFaultsStay (store_of m) (store_of l'))
     → result ≡ Err NoMemory → Spares call (store_of l) (store_of l')
 spared_filed call result l m l' files settled calm wanting =
     inr (files, λ root is. ap (λ ss. standing_at ss root) (calm wanting).0.standings ∙ settled root is)
@@ -131,7 +131,7 @@ spared_filed call result l m l' files settled calm wanting =
 pub none_needed : (call : Call) (l m : Live) → ((root : ℕ) → needs l.roots call root ≡ false) → AreSettled (needs l.roots call) (store_of m)
 none_needed call l m none root is = absurd (false≢true (sym (none root) ∙ is))
 
-pub calm_then : (f g h : Store) → StayCalm f g → StayCalm g h → StayCalm f h
+pub calm_then : (f g h : Store) → LedgersAndFaultsStay f g → LedgersAndFaultsStay g h → LedgersAndFaultsStay f h
 calm_then f g h (a, x) (b, y) = (record { standings = b.standings ∙ a.standings; ledgers = changes_then {X = Told} _ _ _ (λ (p q r : Told) s t root. t root ∙ s root) f.told g.told h.told a.ledgers b.ledgers; appends = b.appends ∙ a.appends }, y ∙ x)
 
 -- a root that was not settled stays as it was
@@ -161,7 +161,7 @@ stays_settling root l m failed prep whole doubt = record {
     one r (inr (is, was, settled)) = absurd (never r is settled)
 
 pub stays_unsettled : (root : ℕ) (l m : Live) (result : Result (Unit {0}) StepError) → Prepares (result ≡ Err StoreError) (has_root (root ∷ [])) l m → IsWhole l → (result ≡ Err StoreError → StaysInDoubt (has_root (root ∷ [])) m.books)
-    → (result ≡ Err NoMemory → StayCalm (store_of l) (store_of m)) → ((limit : ℕ) → result ≢ Err (JournalFull limit)) → (fault : StepError) → result ≡ Err fault → LedgersStay (store_of l) (store_of m)
+    → (result ≡ Err NoMemory → LedgersAndFaultsStay (store_of l) (store_of m)) → ((limit : ℕ) → result ≢ Err (JournalFull limit)) → (fault : StepError) → result ≡ Err fault → LedgersStay (store_of l) (store_of m)
 stays_unsettled root l m result prep whole failed spared full StoreError is =
     let w = failed is in
     let same : root ≡ w.0 = eqb-true root w.0 (sym (or-false (nat_eq root w.0)) ∙ w.2) in

@@ -10,7 +10,7 @@ use Rattle.quota_units.specs.declared.resource.Resource.{Resource}
 use Rattle.quota_units.specs.declared.totals.Totals.{Totals}
 use Rattle.quota_roots.specs.Governing.{governs_at}
 use Rattle.quota_roots.specs.RootSets.{has_root}
-use Rattle.quota_roots.specs.RootLists.{place_of}
+use Rattle.quota_roots.specs.RootLists.{root_named}
 use Rattle.quota_roots.proofs.GoverningLemmas.{governed_inside}
 use Rattle.quota_roots.proofs.MemberLemmas.{Contains-from_is_in}
 use Rattle.std.proofs.lemmas.List.Elements.{All-contains}
@@ -37,10 +37,10 @@ module _ (l : Live) (account : Account) (shows : Shows l account) where
   each : length account.limits ≡ length l.roots
   each = ap length shows.stands.limits_are ∙ shows.whole.limits
 
-  pub no_root_quota : (name : List ℕ) → place_of l.roots name ≡ None → NoRoot ≡ reply_of l.roots account (QuotaCall name)
+  pub no_root_quota : (name : List ℕ) → root_named l.roots name ≡ None → NoRoot ≡ reply_of l.roots account (QuotaCall name)
   no_root_quota name nowhere = quota_none account name l.roots each nowhere
 
-  pub quota_replied : (name : List ℕ) (root : ℕ) (totals : Totals) → place_of l.roots name ≡ Some root → root < length l.roots → totals ≡ usage_at l.roots root account
+  pub quota_replied : (name : List ℕ) (root : ℕ) (totals : Totals) → root_named l.roots name ≡ Some root → root < length l.roots → totals ≡ usage_at l.roots root account
       → Quota (record { root = root; octets = totals.octets; count = totals.count; limits = limits_at l.limits root }) ≡ reply_of l.roots account (QuotaCall name)
   quota_replied name root totals place inside used =
       quota_some account name l.roots each root totals (limits_at l.limits root) place inside used (ap (λ ls. limits_at ls root) (sym shows.stands.limits_are))

@@ -8,7 +8,7 @@ use Rattle.quota_units.specs.Causes.{HasCause}
 use Rattle.quota_units.specs.Limiting.{LimitNumbers}
 use Rattle.quota_units.specs.Sums.{AreSmall}
 use Rattle.quota_units.specs.declared.totals.Totals.{Totals}
-use Rattle.quota_roots.specs.RootLists.{place_of}
+use Rattle.quota_roots.specs.RootLists.{root_named}
 use Rattle.quota_roots.specs.declared.root.RootSpec.{RootSpec}
 use Rattle.keeper.specs.Files.{Files, ledger_at, ledger_bytes}
 use Rattle.keeper.specs.Calls.{Told, Writes, Changes, Due, OnFiles}
@@ -81,19 +81,19 @@ module _ (l : Live) (account : Account) (shows : Shows l account) (root : ℕ) (
       ];
     }
 
-  pub limits_replied : (name : List ℕ) → place_of l.roots name ≡ Some root → (book_at l.books root).standing ≡ Settled
+  pub limits_replied : (name : List ℕ) → root_named l.roots name ≡ Some root → (book_at l.books root).standing ≡ Settled
       → LimitsSet (record { root = root; octets = totals.octets; count = totals.count; limits = new }) ≡ reply_of l.roots account (SetLimits name new)
   limits_replied name place settled =
       limits_some account name l.roots (ap length shows.stands.limits_are ∙ shows.whole.limits) root totals new place inside (shows.stands.kept root inside settled).totals
 
-pub after_limits : (roots : List RootSpec) (account : Account) (name : List ℕ) (root : ℕ) (new : LimitNumbers) → place_of roots name ≡ Some root → step roots account (SetLimits name new) ≡ record account { limits = set account.limits root new }
+pub after_limits : (roots : List RootSpec) (account : Account) (name : List ℕ) (root : ℕ) (new : LimitNumbers) → root_named roots name ≡ Some root → step roots account (SetLimits name new) ≡ record account { limits = set account.limits root new }
 after_limits roots account name root new place = ap (λ o. let a : Account = record account { limits = limits_after o new account.limits } in a) place
 
 -- no root has the name
-pub no_root_replied : (l : Live) (account : Account) (shows : Shows l account) (name : List ℕ) (new : LimitNumbers) → place_of l.roots name ≡ None → NoRoot ≡ reply_of l.roots account (SetLimits name new)
+pub no_root_replied : (l : Live) (account : Account) (shows : Shows l account) (name : List ℕ) (new : LimitNumbers) → root_named l.roots name ≡ None → NoRoot ≡ reply_of l.roots account (SetLimits name new)
 no_root_replied l account shows name new nowhere = limits_none account name l.roots (ap length shows.stands.limits_are ∙ shows.whole.limits) new nowhere
 
-pub no_root_leaves : (roots : List RootSpec) (account : Account) (name : List ℕ) (new : LimitNumbers) → place_of roots name ≡ None → step roots account (SetLimits name new) ≡ account
+pub no_root_leaves : (roots : List RootSpec) (account : Account) (name : List ℕ) (new : LimitNumbers) → root_named roots name ≡ None → step roots account (SetLimits name new) ≡ account
 no_root_leaves roots account name new nowhere = ap (λ o. let a : Account = record account { limits = limits_after o new account.limits } in a) nowhere
 
 -- the standings stay where a settled root is settled again
@@ -101,7 +101,7 @@ pub standings_stay : (books : List Book) (root : ℕ) (book : Book) → book.sta
 standings_stay books root book is settled = map-set_same (λ (b : Book). b.standing) books root book no_book (is ∙ sym settled)
 
 -- the limits of a settled root are set, and its ledger is the folded text of them and its usage
-module _ (l : Live) (name : List ℕ) (root : ℕ) (new : LimitNumbers) (place : place_of l.roots name ≡ Some root) (inside : root < length l.roots) (settled : (book_at l.books root).standing ≡ Settled) (told' : Option Told) (faults' lists' : ℕ) where
+module _ (l : Live) (name : List ℕ) (root : ℕ) (new : LimitNumbers) (place : root_named l.roots name ≡ Some root) (inside : root < length l.roots) (settled : (book_at l.books root).standing ≡ Settled) (told' : Option Told) (faults' lists' : ℕ) where
   abbrev own : Totals
   own = (book_at l.books root).totals
 

@@ -33,7 +33,7 @@ use Rattle.account_ledger.specs.Stores.{length_at, standing_at, usage_at}
 use Rattle.account_ledger.specs.Settling.{LedgersStay}
 use Rattle.account_ledger.specs.Writing.{LineAt, LineStanding, LinesAt, Writing, WritesBy, WritesLines, WritesSo, misses, nothing, writing}
 use Rattle.account_ledger.specs.Filing.{RowsFor}
-use Rattle.account_ledger.specs.Lives.{Acts, IsOf, IsShown, Live, Shows, Stands, store_of}
+use Rattle.account_ledger.specs.Lives.{Acts, StandsIfTold, IsShown, Live, Shows, Stands, store_of}
 use Rattle.account_ledger.proofs.Showing.{length_of, standing_of, told_then}
 use Rattle.account_ledger.proofs.Settled.{files_still, standings_count, with_books}
 use Rattle.account_ledger.proofs.Stepping.{stay_same}
@@ -143,7 +143,7 @@ module _ (call : Call) (l : Live) (leaving coming : Option Message) (octets deli
     stands_at files1 files' s n =
         stands_shifted l leaving coming octets deliveries' generation' account (step l.roots account call) shows told' faults' appends' lists' books' files1 files' (moves account shows) s.rows s.ledgers lined n
 
-    pub stands_lined : IsOf l' (step l.roots account call)
+    pub stands_lined : StandsIfTold l' (step l.roots account call)
     stands_lined =
         let a = told_then (OnFiles (FilesShifted l.mailboxes leaving coming)) l.told told1 shows.told shows.is_told shifted in
         let b = told_then (OnFiles (LedgersLined (length l.roots) changes octets l.limits l.books books')) told1 told' a.0 a.1 lines in
@@ -296,7 +296,7 @@ acts_still call bytes given l reply form there quiet rows leaves = record {
   there = there;
   writes = subst (λ (w : Writing). WritesSo (Shows l) call w (store_of l) (store_of l)) (sym quiet) (stay_same (store_of l), refl);
   rows = rows;
-  stands = λ account shows. subst (λ a. IsOf l a) (sym (leaves account shows)) (subst (λ o. IfSome o (λ told. Stands l account told.files)) (sym shows.is_told) shows.stands);
+  stands = λ account shows. subst (λ a. StandsIfTold l a) (sym (leaves account shows)) (subst (λ o. IfSome o (λ told. Stands l account told.files)) (sym shows.is_told) shows.stands);
   counts = (omega arith, omega arith);
   later = record { faults = omega arith; appends = omega arith };
   cause = λ e. absurd (cc);

@@ -11,7 +11,7 @@ use Rattle.account_core.specs.declared.calls.Reply.TheVariants.{NoMailbox, NoMes
 use Rattle.account_core.specs.Account.{Account, Message}
 use Rattle.account_core.specs.Legality.{MayMove}
 use Rattle.account_core.specs.Messages.{named_message, changed, with_mailbox}
-use Rattle.account_core.specs.Machine.{has_mailbox, over_of, over_or, gaining, move_reply, moving_reply, placing_reply, moved_after, reply_of, step}
+use Rattle.account_core.specs.Machine.{has_mailbox, over_of, over_or, gaining, move_reply, moving_reply, move_between_reply, moved_after, reply_of, step}
 use Rattle.account_core.proofs.MessageSums.{none_named}
 use Rattle.account_core.proofs.Moving.{move_is}
 use Rattle.account_ledger.specs.Messages.{message_in}
@@ -38,7 +38,7 @@ reply_missing roots account from base to source target none = sym (reply_there r
 pub reply_same : (roots : List RootSpec) (account : Account) (from base to : List ℕ) (message : Message) → IsThere from base to message account → bytes_eq from to ≡ true → Moved ≡ move_reply roots account from base to
 reply_same roots account from base to message there same =
     sym (reply_there roots account from base to there.source there.target ∙ ap (moving_reply roots account from base to) there.there
-    ∙ ap (λ b. cond b Moved (placing_reply roots account from base to message)) same)
+    ∙ ap (λ b. cond b Moved (move_between_reply roots account from base to message)) same)
 
 pub reply_over : (roots : List RootSpec) (account : Account) (from base to : List ℕ) (message : Message) (root : ℕ) (resource : Resource) → MayMove account from base to message
     → over_of roots account (gaining roots from to) message.octets ≡ Some (root, resource) → Over root resource ≡ move_reply roots account from base to
@@ -85,7 +85,7 @@ module _ (l : Live) (account : Account) (shows : Shows l account) (from base to 
     pub taken_replied : (other : FileRow) → bytes_eq from to ≡ false → Some other ≡ file_named base (listed to shows.told.files.rows) → NameTaken ≡ reply_of l.roots account (Move from base to)
     taken_replied other apart taken =
         sym (reply_there l.roots account from base to is_there.source is_there.target ∙ ap (moving_reply l.roots account from base to) is_there.there
-        ∙ ap (λ b. cond b Moved (placing_reply l.roots account from base to message)) apart
+        ∙ ap (λ b. cond b Moved (move_between_reply l.roots account from base to message)) apart
         ∙ ap (λ o. cond (is_some o) NameTaken (over_or (over_of l.roots account (gaining l.roots from to) message.octets) Moved)) (named_by l account shows to base (Some other) target taken))
 
     module _ (free : None ≡ file_named base (listed to shows.told.files.rows)) (apart : bytes_eq from to ≡ false) where

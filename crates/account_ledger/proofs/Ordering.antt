@@ -27,11 +27,11 @@ use Rattle.account_core.proofs.Replaying.{replay_more}
 use Rattle.account_ledger.specs.Opening.{opening_account, opening_of}
 use Rattle.account_ledger.specs.Stores.{Store, usage_at}
 use Rattle.account_ledger.specs.Performing.{ListsFor, Performs}
-use Rattle.account_ledger.specs.Lives.{Counted, IsOf, IsShown, IsWhole, Live, Prepares, Shows, Stands, Steps, after_call, store_of}
+use Rattle.account_ledger.specs.Lives.{Counted, StandsIfTold, IsShown, IsWhole, Live, Prepares, Shows, Stands, Steps, after_call, store_of}
 use Rattle.account_ledger.specs.Filing.{RowsBy}
 use Rattle.root_ledgers.specs.Settling.{standings_of}
 use Rattle.account_ledger.specs.Settling.{SettlesLedgers, SettlesSome}
-use Rattle.account_ledger.specs.States.{Holds, InOrder, IsAccount, IsInOrder, OfAccount, ServesNext, State, fault_of}
+use Rattle.account_ledger.specs.States.{Holds, InOrder, IsAccount, IsInOrder, OfAccount, ServesNext, State, entry_fault}
 use Rattle.account_ledger.proofs.Showing.{agree_of}
 use Rattle.account_ledger.proofs.Stepping.{performs_map, some_map}
 
@@ -143,7 +143,7 @@ module _ (then : Option Told) (first_faults : ℕ) (setup : Setup) (journal : �
 
   module _ (caller : ℕ) (call : Call) (bytes : List ℕ) (result : Result Reply StepError) (l' : Live) (steps : Steps call bytes result l l') (asked : MayBeAsked call) (room : length history < journal) where
     abbrev history' : List Entry
-    history' = after caller call (fault_of result)
+    history' = after caller call (entry_fault result)
 
     told_still : Changes (λ x y. Unit {0}) l.told l'.told
     told_still = by l.told l'.told steps.performs.rows
@@ -157,7 +157,7 @@ module _ (then : Option Told) (first_faults : ℕ) (setup : Setup) (journal : �
     replayed : (account : Account) → replay l.roots account history' ≡ after_call l.roots (replay l.roots account history) call result
     replayed account = by result
       where
-        by : (r : Result Reply StepError) → replay l.roots account (after caller call (fault_of r)) ≡ after_call l.roots (replay l.roots account history) call r
+        by : (r : Result Reply StepError) → replay l.roots account (after caller call (entry_fault r)) ≡ after_call l.roots (replay l.roots account history) call r
         by (Ok given) = replay_more l.roots account history (entry_of caller call false)
         by (Err StoreError) = replay_more l.roots account history (entry_of caller call true)
         by (Err NoMemory) = refl
@@ -169,7 +169,7 @@ module _ (then : Option Told) (first_faults : ℕ) (setup : Setup) (journal : �
         later : l.faults ≤ l'.faults
         later = steps.performs.later.faults
 
-        by : (r : Result Reply StepError) → result ≡ r → (r ≡ Err StoreError → Rose l.faults l'.faults) → IsLegal journal first_faults l'.faults (after caller call (fault_of r))
+        by : (r : Result Reply StepError) → result ≡ r → (r ≡ Err StoreError → Rose l.faults l'.faults) → IsLegal journal first_faults l'.faults (after caller call (entry_fault r))
         by (Ok given) is cause =
             let entry = entry_of caller call false in
             let e = faults_more history entry in
@@ -187,7 +187,7 @@ module _ (then : Option Told) (first_faults : ℕ) (setup : Setup) (journal : �
     counted : (l'.deliveries ≤ length history') × (l'.generation ≤ length history')
     counted = by result steps.counts
       where
-        by : (r : Result Reply StepError) → Counted r l l' → (l'.deliveries ≤ length (after caller call (fault_of r))) × (l'.generation ≤ length (after caller call (fault_of r)))
+        by : (r : Result Reply StepError) → Counted r l l' → (l'.deliveries ≤ length (after caller call (entry_fault r))) × (l'.generation ≤ length (after caller call (entry_fault r)))
         by (Ok given) counts = let f = length_push history (entry_of caller call false) in (omega (arith, f, counts.0, order.delivered), omega (arith, f, counts.1, order.changed))
         by (Err StoreError) counts = let f = length_push history (entry_of caller call true) in (omega (arith, f, counts.0, order.delivered), omega (arith, f, counts.1, order.changed))
         by (Err NoMemory) counts = (omega (arith, counts.0, order.delivered), omega (arith, counts.1, order.changed))
@@ -241,7 +241,7 @@ module _ (then : Option Told) (first_faults : ℕ) (setup : Setup) (journal : �
             at (Some t) (Some n) e held = reply (replay l.roots (opening t) history) (shows_at t n e held)
 
         by : (r : Result Reply StepError) → result ≡ r → IfOk r (λ given. (account : Account) → Shows l account → given ≡ reply_of l.roots account call) → IfOk r (HasForm l.roots l.mailboxes call)
-            → ((limit : ℕ) → r ≢ Err (JournalFull limit)) → Serves (origin_of then setup journal l) caller history call r (after caller call (fault_of r))
+            → ((limit : ℕ) → r ≢ Err (JournalFull limit)) → Serves (origin_of then setup journal l) caller history call r (after caller call (entry_fault r))
         by (Ok given) is reply form full = (room, record { machine = machine given reply; mailboxes = l.mailboxes; form = form }, refl)
         by (Err StoreError) is reply form full = (room, refl)
         by (Err NoMemory) is reply form full = refl
@@ -255,18 +255,18 @@ module _ (then : Option Told) (first_faults : ℕ) (setup : Setup) (journal : �
     }
 
     -- there was no memory, and so no entry
-    pub order_unmade : (kept : List Entry) → kept ≡ history → fault_of result ≡ None → InOrder then first_faults setup journal l' kept
+    pub order_unmade : (kept : List Entry) → kept ≡ history → entry_fault result ≡ None → InOrder then first_faults setup journal l' kept
     order_unmade kept same none = subst (InOrder then first_faults setup journal l') (sym (same ∙ sym (ap (after caller call) none))) order_then
 
-    pub serves_unmade : (kept : List Entry) → kept ≡ history → fault_of result ≡ None → ServesNext caller call bytes result s (state_of then first_faults setup journal l' kept)
+    pub serves_unmade : (kept : List Entry) → kept ≡ history → entry_fault result ≡ None → ServesNext caller call bytes result s (state_of then first_faults setup journal l' kept)
     serves_unmade kept same none =
         subst (λ entries. ServesNext caller call bytes result s (state_of then first_faults setup journal l' entries)) (sym (same ∙ sym (ap (after caller call) none))) serves_next
 
     -- the entry was made
-    pub order_made : (more : List Entry) (fault : Bool) → more ≡ history ++ entry_of caller call fault ∷ [] → fault_of result ≡ Some fault → InOrder then first_faults setup journal l' more
+    pub order_made : (more : List Entry) (fault : Bool) → more ≡ history ++ entry_of caller call fault ∷ [] → entry_fault result ≡ Some fault → InOrder then first_faults setup journal l' more
     order_made more fault one made = subst (InOrder then first_faults setup journal l') (sym (one ∙ sym (ap (after caller call) made))) order_then
 
-    pub serves_made : (more : List Entry) (fault : Bool) → more ≡ history ++ entry_of caller call fault ∷ [] → fault_of result ≡ Some fault
+    pub serves_made : (more : List Entry) (fault : Bool) → more ≡ history ++ entry_of caller call fault ∷ [] → entry_fault result ≡ Some fault
         → ServesNext caller call bytes result s (state_of then first_faults setup journal l' more)
     serves_made more fault one made =
         subst (λ entries. ServesNext caller call bytes result s (state_of then first_faults setup journal l' entries)) (sym (one ∙ sym (ap (after caller call) made))) serves_next
@@ -274,7 +274,7 @@ module _ (then : Option Told) (first_faults : ℕ) (setup : Setup) (journal : �
   -- roots were settled, and no entry was made
   pub order_prepared : (failed : Type 0) (may : ℕ → Bool) (m : Live) → Prepares failed may l m → InOrder then first_faults setup journal m history
   order_prepared failed may m prep =
-      subst (λ (x : Live). ((account : Account) → Shows l account → IsOf x account) → InOrder then first_faults setup journal x history) (sym prep.same)
+      subst (λ (x : Live). ((account : Account) → Shows l account → StandsIfTold x account) → InOrder then first_faults setup journal x history) (sym prep.same)
       (λ stands. record {
         sound = order.sound;
         journal_is = order.journal_is;
@@ -285,7 +285,7 @@ module _ (then : Option Told) (first_faults : ℕ) (setup : Setup) (journal : �
         held = held_still stands;
       }) prep.stands
     where
-      held_still : ((account : Account) → Shows l account → IsOf (record l { told = m.told; faults = m.faults; lists = m.lists; books = m.books }) account)
+      held_still : ((account : Account) → Shows l account → StandsIfTold (record l { told = m.told; faults = m.faults; lists = m.lists; books = m.books }) account)
           → Changes (Holds setup (record l { told = m.told; faults = m.faults; lists = m.lists; books = m.books }) history) then m.told
       held_still stands = by then l.told m.told refl refl order.held prep.settles.files
         where

@@ -13,7 +13,7 @@ use Rattle.quota_units.specs.declared.totals.Totals.{Totals}
 use Rattle.quota_units.specs.declared.resource.Resource.{Resource}
 use Rattle.quota_roots.specs.declared.root.RootSpec.{RootSpec}
 use Rattle.quota_roots.specs.Governing.{governs, governs_at, governing}
-use Rattle.quota_roots.specs.RootLists.{place_of}
+use Rattle.quota_roots.specs.RootLists.{root_named}
 use Rattle.quota_roots.proofs.GoverningLemmas.{governs_at_get_or, governing_below, governing_more}
 use Rattle.admission.specs.Fitting.{allows, number_fits, over, first_over, all_over, limits_at, totals_at}
 use Rattle.account_core.specs.declared.calls.RootRow.{RootRow}
@@ -85,30 +85,30 @@ module _ (account : Account) (name : List ℕ) where
   by_place true f k = refl
   by_place false f k = refl
 
-  pub named_is : (roots : List RootSpec) → length account.limits ≡ length roots → named roots account name ≡ option_map (λ k. (get_or roots k no_root, row_at roots account.limits account k)) (place_of roots name)
+  pub named_is : (roots : List RootSpec) → length account.limits ≡ length roots → named roots account name ≡ option_map (λ k. (get_or roots k no_root, row_at roots account.limits account k)) (root_named roots name)
   named_is roots same =
       find_rows 0 roots account.limits same
       ∙ by_place (nat_lt (position_or_len is_named roots) (length roots)) (found_at 0 roots account.limits) (position_or_len is_named roots)
-      ∙ zeroed (place_of roots name)
+      ∙ zeroed (root_named roots name)
     where
       zeroed : (o : Option ℕ) → option_map (found_at 0 roots account.limits) o ≡ option_map (λ k. (get_or roots k no_root, row_at roots account.limits account k)) o
       zeroed None = refl
       zeroed (Some k) = let e : 0 + k ≡ k = omega arith in ap (λ (j : ℕ). let f : RootSpec × RootRow = (get_or roots k no_root, row_of account j (get_or roots k no_root) (limits_at account.limits k)) in Some f) e
 
   module _ (roots : List RootSpec) (same : length account.limits ≡ length roots) where
-    pub quota_none : place_of roots name ≡ None → NoRoot ≡ quota_reply (named roots account name)
+    pub quota_none : root_named roots name ≡ None → NoRoot ≡ quota_reply (named roots account name)
     quota_none none = sym (ap quota_reply (named_is roots same ∙ ap (option_map (λ k. (get_or roots k no_root, row_at roots account.limits account k))) none))
 
-    pub limits_none : (limits : LimitNumbers) → place_of roots name ≡ None → NoRoot ≡ limits_reply limits (named roots account name)
+    pub limits_none : (limits : LimitNumbers) → root_named roots name ≡ None → NoRoot ≡ limits_reply limits (named roots account name)
     limits_none limits none = sym (ap (limits_reply limits) (named_is roots same ∙ ap (option_map (λ k. (get_or roots k no_root, row_at roots account.limits account k))) none))
 
-    pub quota_some : (root : ℕ) (totals : Totals) (limits : LimitNumbers) → place_of roots name ≡ Some root → root < length roots → totals ≡ usage_at roots root account → limits ≡ limits_at account.limits root
+    pub quota_some : (root : ℕ) (totals : Totals) (limits : LimitNumbers) → root_named roots name ≡ Some root → root < length roots → totals ≡ usage_at roots root account → limits ≡ limits_at account.limits root
         → Quota (record { root = root; octets = totals.octets; count = totals.count; limits = limits }) ≡ quota_reply (named roots account name)
     quota_some root totals limits at inside used own =
         let u : totals ≡ usage (get_or roots root no_root) account = used ∙ totals_at-usages roots account root no_root inside in
         rw (own, u) (sym (ap quota_reply (named_is roots same ∙ ap (option_map (λ k. (get_or roots k no_root, row_at roots account.limits account k))) at)))
 
-    pub limits_some : (root : ℕ) (totals : Totals) (limits : LimitNumbers) → place_of roots name ≡ Some root → root < length roots → totals ≡ usage_at roots root account
+    pub limits_some : (root : ℕ) (totals : Totals) (limits : LimitNumbers) → root_named roots name ≡ Some root → root < length roots → totals ≡ usage_at roots root account
         → LimitsSet (record { root = root; octets = totals.octets; count = totals.count; limits = limits }) ≡ limits_reply limits (named roots account name)
     limits_some root totals limits at inside used =
         let u : totals ≡ usage (get_or roots root no_root) account = used ∙ totals_at-usages roots account root no_root inside in

@@ -26,7 +26,7 @@ use Rattle.root_ledgers.proofs.Kept.{kept_folded}
 use Rattle.account_ledger.specs.Messages.{StandFor}
 use Rattle.account_ledger.specs.Stores.{standing_at, usage_at}
 use Rattle.account_ledger.specs.Settling.{AreFolded, IsSettledNow, SettlesLedgers, SettlesSome}
-use Rattle.account_ledger.specs.Lives.{Live, IsOf, Looks, Prepares, Shows, Stands, store_of}
+use Rattle.account_ledger.specs.Lives.{Live, StandsIfTold, Looks, Prepares, Shows, Stands, store_of}
 use Rattle.account_ledger.proofs.UsageLemmas.{scan_is_usage}
 use Rattle.account_ledger.proofs.Showing.{after_told, bounded_of, standing_of}
 
@@ -148,7 +148,7 @@ module _ (failed : Type 0) (may : ℕ → Bool) (l : Live) (told' : Option Told)
 
 -- a mailbox was listed, and no root is settled
 pub files_still : (l : Live) (told' : Option Told) (account : Account) (shows : Shows l account) (faults' lists' : ℕ)
-    → Changes (OnFiles (λ files files'. files' ≡ files)) l.told told' → IsOf (with_books l told' faults' lists' l.books) account
+    → Changes (OnFiles (λ files files'. files' ≡ files)) l.told told' → StandsIfTold (with_books l told' faults' lists' l.books) account
 files_still l told' account shows faults' lists' same =
     after_told (OnFiles (λ files files'. files' ≡ files)) l.told told' shows.told (λ told. Stands (with_books l told' faults' lists' l.books) account told.files) shows.is_told same
     (λ y e. subst (λ (f : Files). Stands (with_books l told' faults' lists' l.books) account f) (sym e) (record {

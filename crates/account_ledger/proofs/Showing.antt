@@ -10,7 +10,7 @@ use Rattle.root_ledgers.specs.Ledgers.{IsRight}
 use Rattle.root_ledgers.specs.Settling.{book_at, no_book, standings_of, lengths_of}
 use Rattle.account_ledger.specs.Messages.{how_many}
 use Rattle.account_ledger.specs.Stores.{Agree, Agrees, standing_at, length_at, usage_at}
-use Rattle.account_ledger.specs.Lives.{Live, IsOf, IsShown, IsWhole, Shows, Stands, store_of}
+use Rattle.account_ledger.specs.Lives.{Live, StandsIfTold, IsShown, IsWhole, Shows, Stands, store_of}
 use Rattle.account_ledger.proofs.UsageLemmas.{IsBounded, fresh_is_usage}
 use Rattle.std.proofs.Math.ListN.{get_or-map}
 
@@ -31,7 +31,7 @@ told_then R None (Some b) x is changes = absurd (cc)
 told_then R (Some a) None x is changes = absurd changes
 told_then R (Some a) (Some b) x is changes = (b, refl, subst (λ z. R z b) (some_is is) changes)
 
-pub shows_then : (R : Told → Told → Type 0) (l m : Live) (account : Account) → Shows l account → IsWhole m → Changes R l.told m.told → IsOf m account → Shows m account
+pub shows_then : (R : Told → Told → Type 0) (l m : Live) (account : Account) → Shows l account → IsWhole m → Changes R l.told m.told → StandsIfTold m account → Shows m account
 shows_then R l m account shows whole changes is =
     let w = told_then R l.told m.told shows.told shows.is_told changes in
     record {
@@ -62,7 +62,7 @@ of_shown l Q fact shown = by l.told refl shown
     by None is given = tt
     by (Some t) is given = subst Q (some_is (sym given.1.is_told ∙ is)) (fact given.0 given.1)
 
-pub shown_then : (R : Told → Told → Type 0) (l m : Live) → IsShown l → IsWhole m → Changes R l.told m.told → ((account : Account) → Shows l account → IsOf m account) → IsShown m
+pub shown_then : (R : Told → Told → Type 0) (l m : Live) → IsShown l → IsWhole m → Changes R l.told m.told → ((account : Account) → Shows l account → StandsIfTold m account) → IsShown m
 shown_then R l m shown whole changes stands = by l.told m.told refl shown changes
   where
     by : (o p : Option Told) → l.told ≡ o → IfSome o (λ told. (account : Account) × Shows l account) → Changes R o p → IfSome p (λ told. (account : Account) × Shows m account)
@@ -95,7 +95,7 @@ agree_of l account shows =
     (agree_stands l account shows.told.files shows.stands shows.orderly.apart)
 
 -- what is known of one live account is known of another that stands for the same
-pub agrees_then : (R : Told → Told → Type 0) (l m : Live) → IsWhole m → Changes R l.told m.told → ((account : Account) → Shows l account → IsOf m account) → Agrees (Shows l) (store_of m)
+pub agrees_then : (R : Told → Told → Type 0) (l m : Live) → IsWhole m → Changes R l.told m.told → ((account : Account) → Shows l account → StandsIfTold m account) → Agrees (Shows l) (store_of m)
 agrees_then R l m whole changes stands account shows = agree_of m account (shows_then R l m account shows whole changes (stands account shows))
 
 pub ok_is_no_err : {A B : Type 0} {x : A} {y : B} → (let r : Result A B = Ok x in r) ≡ Err y → ⊥

@@ -19,11 +19,11 @@ use Rattle.root_ledgers.specs.declared.book.Book.{Book}
 use Rattle.root_ledgers.specs.declared.book.Standing.{Standing}
 use Rattle.root_ledgers.specs.Settling.{MarksOne, standings_of}
 use Rattle.account_ledger.specs.Stores.{Agrees, Store}
-use Rattle.account_ledger.specs.Settling.{AreFolded, AreSettled, LedgersStay, SettledFor, SettlesLedgers, SettlesSome, StayCalm, needs}
+use Rattle.account_ledger.specs.Settling.{AreFolded, AreSettled, LedgersStay, SettledFor, SettlesLedgers, SettlesSome, LedgersAndFaultsStay, needs}
 use Rattle.account_ledger.specs.Writing.{Spares, Writing, WritesBy, WritesLines, WritesSo, limits_of, line, misses, named_line, nothing, writing}
 use Rattle.account_ledger.specs.Filing.{RowsBy, RowsFor}
 use Rattle.account_ledger.specs.Performing.{ListsFor, Performs}
-use Rattle.account_ledger.specs.Lives.{Acts, Counted, IsOf, IsWhole, Live, Looks, Prepares, Shows, Stands, Steps, store_of}
+use Rattle.account_ledger.specs.Lives.{Acts, Counted, StandsIfTold, IsWhole, Live, Looks, Prepares, Shows, Stands, Steps, store_of}
 use Rattle.account_ledger.proofs.Showing.{agrees_then, ok_is_no_err, shows_then}
 use Rattle.account_ledger.proofs.Settled.{files_still, looks_prepare, prepares_said, settles_none, with_books}
 
@@ -120,9 +120,9 @@ prepares_same failed may l not = record {
   due = spends_none failed (l.faults + l.append_faults) l.told not;
 }
 
-pub calm_looked : (failed : Type 0) (l m : Live) → Looks failed l m → ¬ failed → StayCalm (store_of l) (store_of m)
+pub calm_looked : (failed : Type 0) (l m : Live) → Looks failed l m → ¬ failed → LedgersAndFaultsStay (store_of l) (store_of m)
 calm_looked failed l m looks not =
-    subst (λ (x : Live). StayCalm (store_of l) (store_of x)) (sym looks.same)
+    subst (λ (x : Live). LedgersAndFaultsStay (store_of l) (store_of x)) (sym looks.same)
     (record { standings = refl; ledgers = same_ledgers l.told m.told looks.files; appends = refl }, looks.cause.kept not)
 
 -- the roots that a call needs are settled when it is replied to
@@ -203,11 +203,11 @@ module _ (call : Call) (bytes : List ℕ) (l : Live) (told1 : Option Told) (faul
         lists = lists;
         never_full = λ limit e. absurd (cc);
       };
-      stands = λ account shows. subst (λ a. IsOf m a) (sym (leaves account shows)) (prep.stands account shows);
+      stands = λ account shows. subst (λ a. StandsIfTold m a) (sym (leaves account shows)) (prep.stands account shows);
       counts = (omega arith, omega arith);
     }
 
-  erred : (fault : StepError) → Prepares (fault ≡ StoreError) (needs l.roots call) l m → IsWhole m → (fault ≡ NoMemory → StayCalm (store_of l) (store_of m)) → ((limit : ℕ) → fault ≢ JournalFull limit)
+  erred : (fault : StepError) → Prepares (fault ≡ StoreError) (needs l.roots call) l m → IsWhole m → (fault ≡ NoMemory → LedgersAndFaultsStay (store_of l) (store_of m)) → ((limit : ℕ) → fault ≢ JournalFull limit)
       → ListsFor call l.lists lists1 → Steps call bytes (Err fault) l m
   erred fault prep whole calm full lists = record {
     performs = record {
@@ -255,10 +255,10 @@ steps_answered call bytes given failed l m not prep whole settled reply form lea
     subst (λ (x : Live). Prepares failed (needs l.roots call) l x → IsWhole x → SettledFor (misses given) (needs l.roots call) (store_of l) (store_of x) → ListsFor call l.lists x.lists → Steps call bytes (Ok given) l x) (sym prep.same)
     (λ p w s n. answered call bytes l m.told m.faults m.lists m.books failed p w given not s reply form leaves quiet rows n) prep whole settled lists
 
-pub steps_err : (call : Call) (bytes : List ℕ) (fault : StepError) (l m : Live) → Prepares (fault ≡ StoreError) (needs l.roots call) l m → IsWhole m → (fault ≡ NoMemory → StayCalm (store_of l) (store_of m))
+pub steps_err : (call : Call) (bytes : List ℕ) (fault : StepError) (l m : Live) → Prepares (fault ≡ StoreError) (needs l.roots call) l m → IsWhole m → (fault ≡ NoMemory → LedgersAndFaultsStay (store_of l) (store_of m))
     → ((limit : ℕ) → fault ≢ JournalFull limit) → ListsFor call l.lists m.lists → Steps call bytes (Err fault) l m
 steps_err call bytes fault l m prep whole calm full lists =
-    subst (λ (x : Live). Prepares (fault ≡ StoreError) (needs l.roots call) l x → IsWhole x → (fault ≡ NoMemory → StayCalm (store_of l) (store_of x)) → ListsFor call l.lists x.lists → Steps call bytes (Err fault) l x) (sym prep.same)
+    subst (λ (x : Live). Prepares (fault ≡ StoreError) (needs l.roots call) l x → IsWhole x → (fault ≡ NoMemory → LedgersAndFaultsStay (store_of l) (store_of x)) → ListsFor call l.lists x.lists → Steps call bytes (Err fault) l x) (sym prep.same)
     (λ p w c n. erred call bytes l m.told m.faults m.lists m.books fault p w c full n) prep whole calm lists
 
 -- there was no memory before anything was done
@@ -391,7 +391,7 @@ prepares_may failed may may1 l m same prep = record {
 
 -- settling failed, or there was no memory
 pub steps_unsettled : {A : Type 0} (call : Call) (bytes : List ℕ) (result : Result A StepError) (may : ℕ → Bool) (l m : Live) → ((root : ℕ) → may root ≡ needs l.roots call root)
-    → Prepares (result ≡ Err StoreError) may l m → (result ≡ Err NoMemory → StayCalm (store_of l) (store_of m)) → ((limit : ℕ) → result ≢ Err (JournalFull limit)) → IsWhole m
+    → Prepares (result ≡ Err StoreError) may l m → (result ≡ Err NoMemory → LedgersAndFaultsStay (store_of l) (store_of m)) → ((limit : ℕ) → result ≢ Err (JournalFull limit)) → IsWhole m
     → (fault : StepError) → result ≡ Err fault → ListsFor call l.lists m.lists → Steps call bytes (Err fault) l m
 steps_unsettled call bytes result may l m same prep spared full whole fault is lists =
     steps_err call bytes fault l m

@@ -75,8 +75,8 @@ pub record Stands (l : Live) (account : Account) (files : Files) : Type 0 where
       (ledger_at files root) (ledger_bytes files root) (book_at l.books root)
 
 -- if the files are told
-abbrev pub IsOf : Live → Account → Type 0
-IsOf l account = IfSome l.told (λ told. Stands l account told.files)
+abbrev pub StandsIfTold : Live → Account → Type 0
+StandsIfTold l account = IfSome l.told (λ told. Stands l account told.files)
 
 -- the account that the live one stands for, told by its keeper, after so few entries that no sum is cut
 pub record Shows (l : Live) (account : Account) : Type 0 where
@@ -107,7 +107,7 @@ Counted (Err fault) l l' = (l'.deliveries ≡ l.deliveries) × (l'.generation �
 pub record Steps (call : Call) (bytes : List ℕ) (result : Result Reply StepError) (l l' : Live) : Type 0 where
   pub performs : Performs (Shows l) call bytes result (store_of l) (store_of l')
   pub stands : (account : Account) → Shows l account
-      → IsOf l' (after_call l.roots account call result)
+      → StandsIfTold l' (after_call l.roots account call result)
   pub counts : Counted result l l'
 
 -- a mailbox is listed, and nothing changes
@@ -122,7 +122,7 @@ pub record Prepares (failed : Type 0) (may : ℕ → Bool) (l l' : Live) : Type 
   pub same : l'
       ≡ record l { told = l'.told; faults = l'.faults; lists = l'.lists; books = l'.books }
   pub settles : SettlesSome (Shows l) may (store_of l) (store_of l')
-  pub stands : (account : Account) → Shows l account → IsOf l' account
+  pub stands : (account : Account) → Shows l account → StandsIfTold l' account
   pub cause : HasCause failed l.faults l'.faults
   pub due : Due failed l.faults l.append_faults l'.faults l'.append_faults l.told l'.told
 
@@ -135,7 +135,7 @@ pub record Acts (call : Call) (bytes : List ℕ) (result : Result Reply StepErro
   pub writes : WritesBy (Shows l) call result (store_of l) (store_of l')
   pub rows : PerformsRows call bytes result (store_of l) (store_of l')
   pub stands : (account : Account) → Shows l account
-      → IsOf l' (after_call l.roots account call result)
+      → StandsIfTold l' (after_call l.roots account call result)
   pub counts : Counted result l l'
   pub later : NoneFalls (store_of l) (store_of l')
   pub cause : result ≡ Err StoreError → Rose l.faults l'.faults

@@ -2,7 +2,7 @@
 use Rattle.std.specs.Prelude.{◌≡◌, ◌⊎◌, ℕ, Bool, true, false, nat_eq, codes, List, length, Option, Some, None}
 use Rattle.quota_roots.specs.declared.root.RootSpec.{RootSpec}
 use Rattle.quota_roots.specs.Governing.{governs_at, gains_at}
-use Rattle.quota_roots.specs.RootLists.{place_of}
+use Rattle.quota_roots.specs.RootLists.{root_named}
 use Rattle.keeper.specs.Files.{Files, ButLedgers, ledger_at}
 use Rattle.keeper.specs.Calls.{Changes, OnFiles}
 use Rattle.admission.specs.Fitting.{limits_at}
@@ -16,16 +16,16 @@ use Rattle.root_ledgers.specs.Ledgers.{folded}
 use Rattle.account_ledger.specs.Stores.{Store, standing_at, usage_at}
 
 -- the root of this place, if there is one
-abbrev pub is_place : Option ℕ → ℕ → Bool
-is_place None root = false
-is_place (Some place) root = nat_eq place root
+abbrev pub is_root : Option ℕ → ℕ → Bool
+is_root None root = false
+is_root (Some place) root = nat_eq place root
 
 -- the roots that a call needs, which it settles first
 abbrev pub needs : List RootSpec → Call → ℕ → Bool
 needs roots (Deliver mailbox octets flags) root = governs_at roots root mailbox
 needs roots (Check octets) root = governs_at roots root (codes "INBOX")
-needs roots (Quota name) root = is_place (place_of roots name) root
-needs roots (SetLimits name limits) root = is_place (place_of roots name) root
+needs roots (Quota name) root = is_root (root_named roots name) root
+needs roots (SetLimits name limits) root = is_root (root_named roots name) root
 needs roots (Roots mailbox) root = governs_at roots root mailbox
 needs roots (Move from base to) root = gains_at roots root from to
 needs roots call root = false
@@ -66,8 +66,8 @@ pub record LedgersStay (f f' : Store) : Type 0 where
   pub appends : f'.append_faults ≡ f.append_faults
 
 -- and so do the counts of faults
-abbrev pub StayCalm : Store → Store → Type 0
-StayCalm f f' = LedgersStay f f' × (f'.faults ≡ f.faults)
+abbrev pub LedgersAndFaultsStay : Store → Store → Type 0
+LedgersAndFaultsStay f f' = LedgersStay f f' × (f'.faults ≡ f.faults)
 
 -- each of these roots is settled
 abbrev pub AreSettled : (ℕ → Bool) → Store → Type 0
@@ -76,5 +76,5 @@ AreSettled may f = (root : ℕ) → may root ≡ true → standing_at f.standing
 -- the roots that a call needs are settled when it is replied to; if what it names is not there, the
 -- call settles none
 abbrev pub SettledFor : Bool → (ℕ → Bool) → Store → Store → Type 0
-SettledFor true may f f' = StayCalm f f'
+SettledFor true may f f' = LedgersAndFaultsStay f f'
 SettledFor false may f f' = AreSettled may f'

@@ -66,10 +66,10 @@ pub record IsInOrder (s : State) : Type 0 where
   pub epoch : s.store.epoch ≡ s.origin.epoch
 
 -- whether the entry of a call that was answered so has fault; a call that found no memory has none
-abbrev pub fault_of : Result Reply StepError → Option Bool
-fault_of (Ok given) = Some false
-fault_of (Err StoreError) = Some true
-fault_of (Err fault) = None
+abbrev pub entry_fault : Result Reply StepError → Option Bool
+entry_fault (Ok given) = Some false
+entry_fault (Err StoreError) = Some true
+entry_fault (Err fault) = None
 
 -- what a call does to a state that has room for its entry
 pub record ServesNext (caller : ℕ) (call : Call) (bytes : List ℕ) (result : Result Reply StepError) (s s' : State) : Type 0 where

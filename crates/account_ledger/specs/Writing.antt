@@ -22,7 +22,7 @@ use Rattle.root_ledgers.specs.declared.change.Change.{Change}
 use Rattle.root_ledgers.specs.Ledgers.{folded}
 use Rattle.root_ledgers.specs.Lines.{HasCauses, LineLedger, change_at, fallen_at, has_room, line_by}
 use Rattle.account_ledger.specs.Stores.{Store, length_at, standing_at, usage_at}
-use Rattle.account_ledger.specs.Settling.{AreSettled, LedgersStay, StayCalm, needs}
+use Rattle.account_ledger.specs.Settling.{AreSettled, LedgersStay, LedgersAndFaultsStay, needs}
 
 -- how the standing of a root may change by a line
 abbrev pub LineStanding : Option Change → Standing → Standing → Type 0
@@ -104,7 +104,7 @@ writing (Move from base to) Moved =
 writing call given = nothing
 
 abbrev pub WritesSo : (Account → Type 0) → Call → Writing → Store → Store → Type 0
-WritesSo Is call nothing f f' = StayCalm f f'
+WritesSo Is call nothing f f' = LedgersAndFaultsStay f f'
 WritesSo Is call (line from to octets) f f' = WritesLines Is call from to octets f f'
 WritesSo Is call (named_line mailbox base from to) f f' = WritesMove Is call mailbox base from to f f'
 WritesSo Is call (limits_of row) f f' = InstallsLimits row f f'
@@ -113,7 +113,7 @@ WritesSo Is call (limits_of row) f f' = InstallsLimits row f f'
 abbrev pub WritesBy : (Account → Type 0) → Call → Result Reply StepError → Store → Store → Type 0
 WritesBy Is call (Ok given) f f' = WritesSo Is call (writing call given) f f'
 WritesBy Is call (Err StoreError) f f' = LedgersStay f f'
-WritesBy Is call (Err fault) f f' = StayCalm f f'
+WritesBy Is call (Err fault) f f' = LedgersAndFaultsStay f f'
 
 -- a call that puts or renames a file after it has settled roots
 abbrev pub is_filing : Call → Bool
@@ -124,7 +124,7 @@ is_filing call = false
 -- If memory ran out, standings, ledgers and counts of faults are as before; or the roots that the
 -- call needs are settled, and the keeper found no memory to put or to rename a file.
 abbrev pub Spares : Call → Store → Store → Type 0
-Spares call f f' = StayCalm f f' ⊎ ((is_filing call ≡ true) × AreSettled (needs f.roots call) f')
+Spares call f f' = LedgersAndFaultsStay f f' ⊎ ((is_filing call ≡ true) × AreSettled (needs f.roots call) f')
 
 -- what a reply names is not there
 abbrev pub misses : Reply → Bool

@@ -8,7 +8,7 @@ ghost use Rattle.account_core.specs.Account.{Account};
 ghost use Rattle.account_core.specs.Delivering.{delivered_base};
 ghost use Rattle.account_core.specs.Machine.{over_in};
 ghost use Rattle.account_ledger.specs.Lives.{Acts, IsShown, Shows, Steps, store_of};
-ghost use Rattle.account_ledger.specs.Settling.{StayCalm};
+ghost use Rattle.account_ledger.specs.Settling.{LedgersAndFaultsStay};
 ghost use Rattle.account_ledger.specs.NamedFiles.{IsDeliveryName};
 
 use crate::counts::Counts;
@@ -55,16 +55,16 @@ impl<K: Keeper> LiveAccount<K> {
         requires bytes { octets ≡ length bytes.now }
         requires most { octets ≤ 67108864 }
         requires shown { IsShown self.old }
-        requires room { self.old.deliveries < 2 ^ 63 }
+        requires countable { self.old.deliveries < 2 ^ 63 }
         requires changes { self.old.generation < 2 ^ 63 }
         ensures { Steps (Call.Deliver mailbox.now octets flags) bytes.now result self.old self.new }
     {
-        self.is_whole();
+        self.show_whole();
         if !self.has_mailbox(mailbox) {
             return Ok(Reply::NoMailbox);
         }
         let name = self.next_name(alloc, octets, flags)?;
-        let set = self.coming(None, mailbox);
+        let set = self.gainers(None, mailbox);
         self.settle(alloc, set)?;
         match self.verdict(set, octets) {
             Verdict::Over { root, resource } => Ok(Reply::Over { root, resource }),
@@ -93,15 +93,15 @@ impl<K: Keeper> LiveAccount<K> {
         requires bytes { octets ≡ length bytes.now }
         requires most { octets ≤ 67108864 }
         requires shown { IsShown self.old }
-        requires room { self.old.deliveries < 2 ^ 63 }
+        requires countable { self.old.deliveries < 2 ^ 63 }
         requires changes { self.old.generation < 2 ^ 63 }
         requires name { IsDeliveryName self.old.epoch (self.old.deliveries + 1) octets flags name.now }
         requires there { list_any (λ other. bytes_eq other mailbox.now) self.old.mailboxes ≡ true }
         requires fits { (account : Account) → Shows self.old account → over_in self.old.roots account mailbox.now octets ≡ None }
         ensures acts { Acts (Call.Deliver mailbox.now octets flags) bytes.now result self.old self.new }
-        ensures spared { result ≡ Err StepError.NoMemory → StayCalm (store_of self.old) (store_of self.new) }
+        ensures spared { result ≡ Err StepError.NoMemory → LedgersAndFaultsStay (store_of self.old) (store_of self.new) }
     {
-        self.ledgers.are_kept();
+        self.ledgers.show_kept();
         let number = self.counts.deliveries + 1;
         if let Err(fault) = self.keeper.put(alloc, mailbox, name, bytes) {
             return Err(step_error(fault));

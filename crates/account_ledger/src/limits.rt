@@ -1,6 +1,6 @@
 // The limits of a root are set, and its ledger with them.
 ghost use Rattle.std.specs.Prelude.{◌≡◌, ◌≢◌, ◌<◌, [], Some, length, nat_eq};
-ghost use Rattle.quota_roots.specs.RootLists.{place_of};
+ghost use Rattle.quota_roots.specs.RootLists.{root_named};
 ghost use Rattle.account_ledger.specs.Lives.{Acts, Steps, store_of};
 ghost use Rattle.account_ledger.specs.Settling.{AreSettled};
 
@@ -21,7 +21,7 @@ impl<K: Keeper> LiveAccount<K> {
     ) -> Result<Reply, StepError>
         ensures { Steps (Call.SetLimits name.now limits) [] result self.old self.new }
     {
-        self.is_whole();
+        self.show_whole();
         let Some(root) = self.find_root(name) else {
             return Ok(Reply::NoRoot);
         };
@@ -31,13 +31,13 @@ impl<K: Keeper> LiveAccount<K> {
 
     /// Sets the limits of the settled root of this name and number, and installs its ledger.
     fn install_limits(&mut self, name: &[u8], root: u32, limits: Limits) -> Result<Reply, StepError>
-        requires place { place_of self.old.roots name.now ≡ Some root }
+        requires root { root_named self.old.roots name.now ≡ Some root }
         requires inside { root < length self.old.roots }
         requires settled { AreSettled (nat_eq root) (store_of self.old) }
         ensures acts { Acts (Call.SetLimits name.now limits) [] result self.old self.new }
         ensures never_wanting { result ≢ Err StepError.NoMemory }
     {
-        self.ledgers.are_kept();
+        self.ledgers.show_kept();
         let totals = self.ledgers.books()[root as usize].totals;
         if let Err(_) = self.ledgers.fold(&mut self.keeper, root, limits, totals) {
             return Err(StepError::Store);

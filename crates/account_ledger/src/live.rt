@@ -2,8 +2,8 @@
 ghost use Rattle.std.specs.Prelude.{◌≡◌, ◌<◌, ◌^◌, ℕ, length, bytes_eq, All, IfSome};
 ghost use Rattle.std.specs.List.{list_any};
 ghost use Rattle.std.specs.Option.{option_map};
-ghost use Rattle.quota_roots.specs.Governing.{coming, comes_under};
-ghost use Rattle.quota_roots.specs.RootLists.{place_of};
+ghost use Rattle.quota_roots.specs.Governing.{gainers, gains_by};
+ghost use Rattle.quota_roots.specs.RootLists.{root_named};
 ghost use Rattle.quota_roots.specs.RootSets.{has_root};
 ghost use Rattle.account_core.specs.Legality.{HasBytes, MayBeAsked};
 ghost use Rattle.account_ledger.specs.Lives.{IsShown, IsWhole, Steps};
@@ -65,7 +65,7 @@ impl<K: Keeper> LiveAccount<K> {
         requires asked { MayBeAsked call.now }
         requires bytes { HasBytes call.now bytes.now }
         requires shown { IsShown self.old }
-        requires room { self.old.deliveries < 2 ^ 63 }
+        requires countable { self.old.deliveries < 2 ^ 63 }
         requires changes { self.old.generation < 2 ^ 63 }
         ensures { Steps call.now bytes.now result self.old self.new }
     {
@@ -98,10 +98,10 @@ impl<K: Keeper> LiveAccount<K> {
     }
 
     /// There are limits and a book for each root, and the mailboxes are sound.
-    pub(crate) fn is_whole(&self)
+    pub(crate) fn show_whole(&self)
         ensures { IsWhole self.now }
     {
-        self.ledgers.are_kept();
+        self.ledgers.show_kept();
     }
 
     /// Whether the account has a mailbox of this name.
@@ -113,7 +113,7 @@ impl<K: Keeper> LiveAccount<K> {
 
     /// The number of the root of this name.
     pub(crate) fn find_root(&self, name: &[u8]) -> Option<u32>
-        ensures place { result ≡ place_of self.now.roots name.now }
+        ensures root { result ≡ root_named self.now.roots name.now }
         ensures inside { IfSome result (λ root. root < length self.now.roots) }
     {
         self.roots.find(name)
@@ -121,12 +121,12 @@ impl<K: Keeper> LiveAccount<K> {
 
     /// The roots that a message comes under if it goes from one mailbox to another; one that is
     /// delivered comes from none.
-    pub(crate) fn coming(&self, from: Option<&[u8]>, to: &[u8]) -> RootSet
-        ensures value { result ≡ coming self.now.roots (option_map (λ m. m.now) from.entry) to.now }
-        ensures members { (root : ℕ) → has_root result root ≡ comes_under self.now.roots (option_map (λ m. m.now) from.entry) to.now root }
+    pub(crate) fn gainers(&self, from: Option<&[u8]>, to: &[u8]) -> RootSet
+        ensures value { result ≡ gainers self.now.roots (option_map (λ m. m.now) from.entry) to.now }
+        ensures members { (root : ℕ) → has_root result root ≡ gains_by self.now.roots (option_map (λ m. m.now) from.entry) to.now root }
         ensures below { All (λ root. root < length self.now.roots) result }
     {
-        self.roots.coming(from, to)
+        self.roots.gainers(from, to)
     }
 }
 

@@ -8,7 +8,7 @@ ghost use Rattle.account_core.specs.Machine.{over_of};
 ghost use Rattle.account_core.specs.Messages.{named_message};
 ghost use Rattle.account_ledger.specs.Lives.{Acts, IsShown, Shows, Steps, store_of};
 ghost use Rattle.account_ledger.specs.Messages.{message_in};
-ghost use Rattle.account_ledger.specs.Settling.{StayCalm};
+ghost use Rattle.account_ledger.specs.Settling.{LedgersAndFaultsStay};
 ghost use Rattle.account_ledger.specs.NamedFiles.{file_named};
 
 use crate::fault::step_error;
@@ -33,7 +33,7 @@ impl<K: Keeper> LiveAccount<K> {
         requires changes { self.old.generation < 2 ^ 63 }
         ensures { Steps (Call.Move from.now base.now to.now) [] result self.old self.new }
     {
-        self.is_whole();
+        self.show_whole();
         if !self.has_mailbox(from) {
             return Ok(Reply::NoMailbox);
         }
@@ -62,7 +62,7 @@ impl<K: Keeper> LiveAccount<K> {
         requires found { IfSome self.old.told (λ t. Some file.now ≡ file_named base.now (listed from.now t.files.rows)) }
         ensures { Steps (Call.Move from.now base.now to.now) [] result self.old self.new }
     {
-        self.is_whole();
+        self.show_whole();
         if from == to {
             return Ok(Reply::Moved);
         }
@@ -91,9 +91,9 @@ impl<K: Keeper> LiveAccount<K> {
         requires apart { bytes_eq from.now to.now ≡ false }
         ensures { Steps (Call.Move from.now base.now to.now) [] result self.old self.new }
     {
-        self.is_whole();
+        self.show_whole();
         let octets = size_of_file(file);
-        let set = self.coming(Some(from), to);
+        let set = self.gainers(Some(from), to);
         self.settle(alloc, set)?;
         match self.verdict(set, octets) {
             Verdict::Over { root, resource } => Ok(Reply::Over { root, resource }),
@@ -119,9 +119,9 @@ impl<K: Keeper> LiveAccount<K> {
         requires apart { bytes_eq from.now to.now ≡ false }
         requires fits { (account : Account) → Shows self.old account → over_of self.old.roots account (gaining self.old.roots from.now to.now) (message_in from.now file.now).octets ≡ None }
         ensures acts { Acts (Call.Move from.now base.now to.now) [] result self.old self.new }
-        ensures spared { result ≡ Err StepError.NoMemory → StayCalm (store_of self.old) (store_of self.new) }
+        ensures spared { result ≡ Err StepError.NoMemory → LedgersAndFaultsStay (store_of self.old) (store_of self.new) }
     {
-        self.ledgers.are_kept();
+        self.ledgers.show_kept();
         let octets = size_of_file(file);
         let name = file.name.as_slice();
         if let Err(fault) = rename_file(&mut self.keeper, alloc, from, name, to, name) {

@@ -31,7 +31,7 @@ impl<K: Keeper> LiveAccount<K> {
         ensures never_full { (limit : ℕ) → result ≢ Err (StepError.JournalFull limit) }
     {
         let listed = self.keeper.list(alloc, mailbox);
-        self.is_whole();
+        self.show_whole();
         match listed {
             Ok(files) => Ok(files),
             Err(fault) => Err(step_error(fault)),
@@ -48,7 +48,7 @@ impl<K: Keeper> LiveAccount<K> {
     {
         let mailbox = &self.mailboxes.as_slice()[index as usize];
         let listed = self.keeper.list(alloc, mailbox.as_slice());
-        self.is_whole();
+        self.show_whole();
         match listed {
             Ok(files) => Ok(files),
             Err(fault) => Err(step_error(fault)),

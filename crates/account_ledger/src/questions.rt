@@ -21,7 +21,7 @@ impl<K: Keeper> LiveAccount<K> {
     pub(crate) fn quota(&mut self, alloc: Global, name: &[u8]) -> Result<Reply, StepError>
         ensures { Steps (Call.Quota name.now) [] result self.old self.new }
     {
-        self.is_whole();
+        self.show_whole();
         let Some(root) = self.find_root(name) else {
             return Ok(Reply::NoRoot);
         };
@@ -47,9 +47,9 @@ impl<K: Keeper> LiveAccount<K> {
     pub(crate) fn roots(&mut self, alloc: Global, mailbox: &[u8]) -> Result<Reply, StepError>
         ensures { Steps (Call.Roots mailbox.now) [] result self.old self.new }
     {
-        self.is_whole();
+        self.show_whole();
         let rows = Vec::with_capacity(alloc, MAX_ROOTS as usize)?;
-        let set = self.coming(None, mailbox);
+        let set = self.gainers(None, mailbox);
         self.settle(alloc, set)?;
         Ok(Reply::Roots(self.rows_of(rows, mailbox)))
     }
@@ -58,11 +58,11 @@ impl<K: Keeper> LiveAccount<K> {
     /// four.
     fn rows_of(&self, rows: Vec<RootRow>, mailbox: &[u8]) -> RootRows
         requires empty { rows.items ≡ [] }
-        requires held { 4 ≤ vec_capacity rows }
+        requires capacity { 4 ≤ vec_capacity rows }
         ensures rows { result ≡ kept_rows self.now.roots self.now.limits self.now.books mailbox.now }
         ensures inside { All (λ row. row.root < length self.now.roots) result }
     {
-        self.ledgers.are_kept();
+        self.ledgers.show_kept();
         rows_of(
             rows,
             &self.roots,
@@ -76,8 +76,8 @@ impl<K: Keeper> LiveAccount<K> {
     pub(crate) fn check(&mut self, alloc: Global, octets: u64) -> Result<Reply, StepError>
         ensures { Steps (Call.Check octets) [] result self.old self.new }
     {
-        self.is_whole();
-        let set = self.coming(None, b"INBOX");
+        self.show_whole();
+        let set = self.gainers(None, b"INBOX");
         self.settle(alloc, set)?;
         let verdict = self.verdict(set, octets);
         Ok(check_reply(verdict))
@@ -87,7 +87,7 @@ impl<K: Keeper> LiveAccount<K> {
     pub(crate) fn status(&mut self, alloc: Global, mailbox: &[u8]) -> Result<Reply, StepError>
         ensures { Steps (Call.Status mailbox.now) [] result self.old self.new }
     {
-        self.is_whole();
+        self.show_whole();
         if !self.has_mailbox(mailbox) {
             return Ok(Reply::NoMailbox);
         }
@@ -106,7 +106,7 @@ impl<K: Keeper> LiveAccount<K> {
     pub(crate) fn scan_begin(&mut self, alloc: Global) -> Result<Reply, StepError>
         ensures { Steps Call.ScanBegin [] result self.old self.new }
     {
-        self.is_whole();
+        self.show_whole();
         let generation = self.generation();
         let sets = self.sets(alloc)?;
         Ok(Reply::Begun { generation, sets })
@@ -130,7 +130,7 @@ impl<K: Keeper> LiveAccount<K> {
     pub(crate) fn scan_part(&mut self, alloc: Global, index: u32) -> Result<Reply, StepError>
         ensures { Steps (Call.ScanPart index) [] result self.old self.new }
     {
-        self.is_whole();
+        self.show_whole();
         if !self.has_part(index) {
             return Ok(Reply::NoPart);
         }

@@ -23,7 +23,7 @@ impl<K: Keeper> LiveAccount<K> {
         requires changes { self.old.generation < 2 ^ 63 }
         ensures { Steps (Call.Remove mailbox.now base.now) [] result self.old self.new }
     {
-        self.is_whole();
+        self.show_whole();
         if !self.has_mailbox(mailbox) {
             return Ok(Reply::NoMailbox);
         }
@@ -47,7 +47,7 @@ impl<K: Keeper> LiveAccount<K> {
         ensures acts { Acts (Call.Remove mailbox.now base.now) [] result self.old self.new }
         ensures never_wanting { result ≢ Err StepError.NoMemory }
     {
-        self.ledgers.are_kept();
+        self.ledgers.show_kept();
         let octets = size_of_file(file);
         if let Err(_) = self.keeper.remove(mailbox, file.name.as_slice()) {
             return Err(StepError::Store);

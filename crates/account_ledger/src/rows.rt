@@ -34,7 +34,7 @@ pub(crate) fn rows_of(
     requires limits { length limits.now ≡ length roots.now }
     requires books { length books.now ≡ length roots.now }
     requires empty { rows.items ≡ [] }
-    requires held { 4 ≤ vec_capacity rows }
+    requires capacity { 4 ≤ vec_capacity rows }
     ensures { result ≡ kept_rows roots.now limits.now books.now mailbox.now }
 {
     let mut rows = rows;
@@ -65,15 +65,15 @@ pub(crate) fn totals_of(books: &[Book]) -> [Totals; 4]
 }
 
 /// Each set limit is in its range.
-pub(crate) fn are_limits(limits: &[Limits])
+pub(crate) fn show_limits(limits: &[Limits])
     ensures { All AreLimits limits.now }
 {
     for own in limits {
-        is_in_range(own);
+        show_in_range(own);
     }
 }
 
-fn is_in_range(limits: &Limits)
+fn show_in_range(limits: &Limits)
     ensures { AreLimits limits.now }
 {
     let _octets = limits.octets();

@@ -7,12 +7,12 @@ ghost use Rattle.root_ledgers.specs.declared.book.Standing.TheVariants.{Settled}
 ghost use Rattle.root_ledgers.specs.Settling.{StaysInDoubt, book_at};
 ghost use Rattle.account_ledger.specs.Rows.{IsInside, IsVerdict};
 ghost use Rattle.account_ledger.specs.Stores.{usage_at};
-ghost use Rattle.account_ledger.specs.Settling.{AreSettled, LedgersStay, StayCalm};
+ghost use Rattle.account_ledger.specs.Settling.{AreSettled, LedgersStay, LedgersAndFaultsStay};
 ghost use Rattle.account_ledger.specs.Lives.{IsWhole, Prepares, Shows, store_of};
 
 use crate::fault::step_error;
 use crate::live::LiveAccount;
-use crate::rows::{are_limits, totals_of};
+use crate::rows::{show_limits, totals_of};
 use account_core::StepError;
 use admission::{Verdict, admit};
 use keeper::Keeper;
@@ -31,12 +31,12 @@ impl<K: Keeper> LiveAccount<K> {
         ensures prepares { Prepares (result ≡ Err StepError.Store) (has_root set) self.old self.new }
         ensures settled { OnOk result (AreSettled (has_root set) (store_of self.new)) }
         ensures failed { result ≡ Err StepError.Store → StaysInDoubt (has_root set) self.new.books }
-        ensures spared { result ≡ Err StepError.NoMemory → StayCalm (store_of self.old) (store_of self.new) }
+        ensures spared { result ≡ Err StepError.NoMemory → LedgersAndFaultsStay (store_of self.old) (store_of self.new) }
         ensures whole { IsWhole self.new }
         ensures never_full { (limit : ℕ) → result ≢ Err (StepError.JournalFull limit) }
     {
         // What is known of the ledgers before.
-        self.ledgers.are_kept();
+        self.ledgers.show_kept();
         let settled = self.ledgers.settle(
             alloc,
             &mut self.keeper,
@@ -44,7 +44,7 @@ impl<K: Keeper> LiveAccount<K> {
             self.mailboxes.as_slice(),
             set,
         );
-        self.is_whole();
+        self.show_whole();
         match settled {
             Ok(()) => Ok(()),
             Err(fault) => Err(step_error(fault)),
@@ -63,11 +63,11 @@ impl<K: Keeper> LiveAccount<K> {
         ensures totals { IfOk result (λ totals. totals ≡ (book_at self.new.books root).totals) }
         ensures usage { IfOk result (λ totals. (account : Account) → Shows self.old account → totals ≡ usage_at self.old.roots root account) }
         ensures stays { IsErr result → LedgersStay (store_of self.old) (store_of self.new) }
-        ensures spared { result ≡ Err StepError.NoMemory → StayCalm (store_of self.old) (store_of self.new) }
+        ensures spared { result ≡ Err StepError.NoMemory → LedgersAndFaultsStay (store_of self.old) (store_of self.new) }
         ensures whole { IsWhole self.new }
         ensures never_full { (limit : ℕ) → result ≢ Err (StepError.JournalFull limit) }
     {
-        self.is_whole();
+        self.show_whole();
         self.settle(alloc, RootSet::one(root))?;
         Ok(self.totals_of(root))
     }
@@ -77,7 +77,7 @@ impl<K: Keeper> LiveAccount<K> {
         requires { root < length self.now.roots }
         ensures { result ≡ (book_at self.now.books root).totals }
     {
-        self.ledgers.are_kept();
+        self.ledgers.show_kept();
         self.ledgers.books()[root as usize].totals
     }
 
@@ -89,9 +89,9 @@ impl<K: Keeper> LiveAccount<K> {
         ensures verdict { (account : Account) → Shows self.now account → IsVerdict (over_of self.now.roots account set octets) result }
         ensures inside { IsInside (length self.now.roots) result }
     {
-        self.ledgers.are_kept();
+        self.ledgers.show_kept();
         let totals = totals_of(self.ledgers.books());
-        are_limits(self.ledgers.limits());
+        show_limits(self.ledgers.limits());
         // No limit is so large that more octets than these could be within it.
         let octets = octets.min(MOST);
         let count = self.ledgers.books().len();

@@ -9,8 +9,8 @@ ghost use Rattle.account_core.specs.Logs.{Serves};
 ghost use Rattle.account_opening.specs.Admitting.{IsRefused, MayOpen};
 ghost use Rattle.root_ledgers.specs.declared.book.Standing.TheVariants.{Settled};
 ghost use Rattle.account_ledger.specs.Performing.{ListsFor, PerformsLedgers, PerformsRows, UsesDue};
-ghost use Rattle.account_ledger.specs.Settling.{LedgersStay, SettlesSome, StayCalm};
-ghost use Rattle.account_ledger.specs.States.{IsAccount, IsInOrder, IsOpened, OfAccount, Opened, ServesNext, fault_of};
+ghost use Rattle.account_ledger.specs.Settling.{LedgersStay, SettlesSome, LedgersAndFaultsStay};
+ghost use Rattle.account_ledger.specs.States.{IsAccount, IsInOrder, IsOpened, OfAccount, Opened, ServesNext, entry_fault};
 ghost use Rattle.account_ledger.specs.Stores.{NoneFalls, standing_at, usage_at};
 ghost use Rattle.account_ledger.specs.Writing.{Spares};
 
@@ -43,8 +43,8 @@ pub struct AccountState<K: Keeper> {
 
 /// Whether the entry of a call that was answered so has fault. A call that found no memory has no
 /// entry.
-fn fault_of(answer: &Result<Reply, StepError>) -> Option<bool>
-    ensures { result ≡ fault_of answer.now }
+fn entry_fault(answer: &Result<Reply, StepError>) -> Option<bool>
+    ensures { result ≡ entry_fault answer.now }
 {
     match answer {
         Ok(_) => Some(false),
@@ -145,7 +145,7 @@ impl<K: Keeper> AccountState<K> {
             opened,
             setup: as_set_up,
         };
-        state.is_in_order();
+        state.show_in_order();
         Ok(state)
     }
 
@@ -168,7 +168,7 @@ impl<K: Keeper> AccountState<K> {
         requires { root < length self.now.origin.roots }
         ensures { result ≡ standing_at self.now.store.standings root }
     {
-        self.live.is_whole();
+        self.live.show_whole();
         self.live.ledgers.books()[root as usize].standing
     }
 
@@ -213,14 +213,14 @@ impl<K: Keeper> AccountState<K> {
         ensures unchanged { (limit : ℕ) → result ≡ Err (StepError.JournalFull limit) → self.new ≡ self.old }
         ensures order { IsInOrder self.new }
     {
-        self.is_in_order();
+        self.show_in_order();
         if self.is_full() {
             return Err(StepError::JournalFull {
                 limit: self.journal,
             });
         }
         let answer = self.serve_next(alloc, caller, call, bytes);
-        self.is_in_order();
+        self.show_in_order();
         answer
     }
 
@@ -234,13 +234,13 @@ impl<K: Keeper> AccountState<K> {
     ) -> Result<Reply, StepError>
         requires asked { MayBeAsked call }
         requires bytes { HasBytes call bytes.now }
-        requires room { length self.old.history < self.old.origin.journal }
+        requires not_full { length self.old.history < self.old.origin.journal }
         ensures { ServesNext caller call bytes.now result self.old self.new }
     {
-        self.live.is_whole();
+        self.live.show_whole();
         self.history.reserve(1)?;
         let answer = self.live.perform(alloc, &call, bytes);
-        let Some(fault) = fault_of(&answer) else {
+        let Some(fault) = entry_fault(&answer) else {
             return answer;
         };
         self.history.push_reserved(Entry {
@@ -271,15 +271,15 @@ impl<K: Keeper> AccountState<K> {
         ensures settled { OnOk result (standing_at self.new.store.standings root ≡ Settled) }
         ensures settles { SettlesSome (IsAccount self.old) (nat_eq root) self.old.store self.new.store }
         ensures stays { IsErr result → LedgersStay self.old.store self.new.store }
-        ensures spared { result ≡ Err StepError.NoMemory → StayCalm self.old.store self.new.store }
+        ensures spared { result ≡ Err StepError.NoMemory → LedgersAndFaultsStay self.old.store self.new.store }
         ensures due { Due (result ≡ Err StepError.Store) self.old.store.faults self.old.store.append_faults self.new.store.faults self.new.store.append_faults self.old.store.told self.new.store.told }
         ensures cause { HasCause (result ≡ Err StepError.Store) self.old.store.faults self.new.store.faults }
         ensures never_full { (limit : ℕ) → result ≢ Err (StepError.JournalFull limit) }
         ensures order { IsInOrder self.new }
     {
-        self.live.is_whole();
+        self.live.show_whole();
         let usage = self.live.usage(alloc, root);
-        self.is_in_order();
+        self.show_in_order();
         usage
     }
 
@@ -296,9 +296,9 @@ impl<K: Keeper> AccountState<K> {
     }
 
     /// The state is in order, between any two calls.
-    pub fn is_in_order(&self)
+    pub fn show_in_order(&self)
         ensures { IsInOrder self.now }
     {
-        self.live.is_whole();
+        self.live.show_whole();
     }
 }

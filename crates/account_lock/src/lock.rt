@@ -86,7 +86,7 @@ impl<V: Booked> Lock<V> {
     pub fn enlist(&self, first: &mut Pass) -> Result<Pass, Full>
         requires lock { IsOf self.now first.old }
         requires first { (view first.old).number ≡ 0 }
-        ensures room { IfOk result (λ pass. (view first.old).made < limit_of self.now) }
+        ensures more_callers { IfOk result (λ pass. (view first.old).made < limit_of self.now) }
         ensures made { IfOk result (λ pass. IsOf self.now pass × (view pass ≡ newcomer (view first.old))) }
         ensures first { IfOk result (λ pass. IsOf self.now first.new × (view first.new ≡ having_made (view first.old))) }
         ensures full { IfErr result (λ full. ((view first.old).made ≡ limit_of self.now) × (full.limit ≡ limit_of self.now) × (first.new ≡ first.old)) }

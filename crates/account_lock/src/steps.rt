@@ -97,7 +97,7 @@ impl<V: Booked> Lock<V> {
         requires lock { chair.seat.table_id ≡ self.now.table.shared.table_id }
         requires rests { (chair.seat.me.0.stage ≡ resting) × (chair.seat.me.1 ≡ []) × (chair.seat.me.0.pending ≡ false) }
         requires first { chair.seat.me.0.number ≡ 0 }
-        requires room { (chair.seat.me.0.limit ≡ self.now.callers) × (chair.seat.me.0.made < self.now.callers) }
+        requires more_callers { (chair.seat.me.0.limit ≡ self.now.callers) × (chair.seat.me.0.made < self.now.callers) }
         ensures lock { (result.0.seat.table_id ≡ chair.seat.table_id) × (result.1.badge.table_id ≡ chair.seat.table_id) }
         ensures made { result.0.seat.me ≡ (having_made chair.seat.me.0, []) }
         ensures pass { result.1.badge.views ≡ newcomer chair.seat.me.0 ∷ [] }

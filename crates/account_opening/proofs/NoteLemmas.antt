@@ -7,7 +7,7 @@ use Rattle.std.proofs.lemmas.List.Sums.{sum_by-append, sum_by-cons}
 use Rattle.std.proofs.lemmas.Slice.Eq.{bytes_eq-Decides}
 use denote.Ref.{Bor}
 use Rattle.keeper.specs.declared.rows.FileRow.{FileRow}
-use Rattle.account_opening.specs.Bases.{AreApart, AreNoted, base_in, note_of, noted, times_in}
+use Rattle.account_opening.specs.Bases.{AreApart, AreCounted, base_in, count_up_to_two, noted, times_in}
 
 -- one more file
 times_more : (files : List FileRow) (i : ℕ) (file : FileRow) → i < length files → file ≡ get_or files i file → (base : List ℕ)
@@ -24,12 +24,12 @@ plus_one n = omega arith
 plus_none : (n : ℕ) → n + 0 ≡ n
 plus_none n = omega arith
 
-note_more : (n : ℕ) → note_of (suc n) ≡ Some (cond (is_some (note_of n)) 2 1)
+note_more : (n : ℕ) → count_up_to_two (suc n) ≡ Some (cond (is_some (count_up_to_two n)) 2 1)
 note_more zero = refl
 note_more (suc zero) = refl
 note_more (suc (suc n)) = refl
 
-noted_twice : (n : ℕ) → nat_lt 1 (unwrap_or (note_of n) 0) ≡ nat_lt 1 n
+noted_twice : (n : ℕ) → nat_lt 1 (unwrap_or (count_up_to_two n) 0) ≡ nat_lt 1 n
 noted_twice zero = refl
 noted_twice (suc zero) = refl
 noted_twice (suc (suc n)) = sym (two n)
@@ -37,7 +37,7 @@ noted_twice (suc (suc n)) = sym (two n)
     two : (k : ℕ) → nat_lt 1 (suc (suc k)) ≡ true
     two k = grind (arith, nat_tests)
 
-not_noted : (n : ℕ) → is_some (note_of n) ≡ false → n ≡ 0
+not_noted : (n : ℕ) → is_some (count_up_to_two n) ≡ false → n ≡ 0
 not_noted zero e = refl
 not_noted (suc zero) e = absurd (cc)
 not_noted (suc (suc n)) e = absurd (cc)
@@ -50,7 +50,7 @@ over_again false first second old = refl
 -- one more base
 module _ (files : List FileRow) (i : ℕ) (file : FileRow) (inside : i < length files) (is : file ≡ get_or files i file) (here : List ℕ) (here_is : here ≡ base_in file)
     (m n : BTreeMap (Bor (List ℕ)) ℕ) (again : Bool) (again_is : again ≡ is_some (noted m here))
-    (writes : (other : List ℕ) → noted n other ≡ cond (bytes_eq here other) (Some (cond again 2 1)) (noted m other)) (notes : AreNoted m (take i files)) where
+    (writes : (other : List ℕ) → noted n other ≡ cond (bytes_eq here other) (Some (cond again 2 1)) (noted m other)) (notes : AreCounted m (take i files)) where
   more_here : (base : List ℕ) → times_in (take (i + 1) files) base ≡ times_in (take i files) base + cond (bytes_eq here base) 1 0
   more_here base = times_more files i file inside is base ∙ ap (λ b. times_in (take i files) base + cond (bytes_eq b base) 1 0) (sym here_is)
 
@@ -60,15 +60,15 @@ module _ (files : List FileRow) (i : ℕ) (file : FileRow) (inside : i < length 
   other_more : (base : List ℕ) → bytes_eq here base ≡ false → times_in (take (i + 1) files) base ≡ times_in (take i files) base
   other_more base e = more_here base ∙ ap (λ (b : Bool). times_in (take i files) base + cond b 1 0) e ∙ plus_none (times_in (take i files) base)
 
-  pub notes_more : AreNoted n (take (i + 1) files)
+  pub notes_more : AreCounted n (take (i + 1) files)
   notes_more base = writes base ∙ by (bytes_eq here base) refl
     where
-      by : (same : Bool) → bytes_eq here base ≡ same → cond same (Some (cond again 2 1)) (noted m base) ≡ note_of (times_in (take (i + 1) files) base)
+      by : (same : Bool) → bytes_eq here base ≡ same → cond same (Some (cond again 2 1)) (noted m base) ≡ count_up_to_two (times_in (take (i + 1) files) base)
       by true e =
           let is_here : here ≡ base = (bytes_eq-Decides here base).0 e in
           ap (λ (a : Bool). Some (cond a 2 1)) (again_is ∙ ap (λ b. is_some (noted m b)) is_here ∙ ap is_some (notes base))
-          ∙ sym (note_more (times_in (take i files) base)) ∙ ap note_of (sym (same_more base e))
-      by false e = notes base ∙ ap note_of (sym (other_more base e))
+          ∙ sym (note_more (times_in (take i files) base)) ∙ ap count_up_to_two (sym (same_more base e))
+      by false e = notes base ∙ ap count_up_to_two (sym (other_more base e))
 
   -- where none was noted before, each stands once at most
   pub apart_more : again ≡ false → AreApart (take i files) → AreApart (take (i + 1) files)
@@ -83,7 +83,7 @@ module _ (files : List FileRow) (i : ℕ) (file : FileRow) (inside : i < length 
       by false e = subst (λ n. n ≤ 1) (sym (other_more base e)) (apart base)
 
 -- a base that is noted twice
-pub is_twice : (files : List FileRow) (notes : BTreeMap (Bor (List ℕ)) ℕ) (here base : List ℕ) → AreNoted notes files → here ≡ base → nat_lt 1 (unwrap_or (noted notes here) 0) ≡ nat_lt 1 (times_in files base)
+pub is_twice : (files : List FileRow) (notes : BTreeMap (Bor (List ℕ)) ℕ) (here base : List ℕ) → AreCounted notes files → here ≡ base → nat_lt 1 (unwrap_or (noted notes here) 0) ≡ nat_lt 1 (times_in files base)
 is_twice files notes here base are same = ap (λ b. nat_lt 1 (unwrap_or (noted notes b) 0)) same ∙ ap (λ o. nat_lt 1 (unwrap_or o 0)) (are base) ∙ noted_twice (times_in files base)
 
 -- where each stands once at most, none is found

@@ -13,7 +13,7 @@ use Rattle.keeper.specs.declared.rows.FileRow.{FileRow}
 use Rattle.keeper.proofs.Changing.{changes_then}
 use Rattle.admission.specs.Fitting.{limits_at}
 use Rattle.account_opening.specs.declared.findings.Findings.{Findings}
-use Rattle.account_opening.specs.Bases.{listings, how_many_files, double_in, first_double, used_in, first_used, shown, findings_of, with_mailbox}
+use Rattle.account_opening.specs.Bases.{listings, how_many_files, double_in, first_double, used_in, first_used, shown, findings_of, with_files_of}
 use Rattle.account_opening.specs.Admitting.{FindsSome}
 use Rattle.account_opening.specs.Limits.{limits_of_ledger, limits_below, ReadsSome}
 
@@ -64,9 +64,9 @@ same_findings a b p q r =
     ∙ ap (λ d. let x : Findings = record { files = b.files; double = d; used = a.used } in x) q
     ∙ ap (λ u. let x : Findings = record { files = b.files; double = b.double; used = u } in x) r
 
-pub findings_more : (epoch : ℕ) (all : List (List FileRow)) (files : List FileRow) → findings_of epoch (all ++ files ∷ []) ≡ with_mailbox epoch (findings_of epoch all) files
+pub findings_more : (epoch : ℕ) (all : List (List FileRow)) (files : List FileRow) → findings_of epoch (all ++ files ∷ []) ≡ with_files_of epoch (findings_of epoch all) files
 findings_more epoch all files =
-    same_findings (findings_of epoch (all ++ files ∷ [])) (with_mailbox epoch (findings_of epoch all) files)
+    same_findings (findings_of epoch (all ++ files ∷ [])) (with_files_of epoch (findings_of epoch all) files)
     (files_more all files)
     (ap (option_map shown) (first_more first_double double_in refl (λ x xs. refl) all files) ∙ map_or shown (first_double all) (double_in files))
     (ap (option_map shown) (first_more (first_used epoch) (used_in epoch) refl (λ x xs. refl) all files) ∙ map_or shown (first_used epoch all) (used_in epoch files))
@@ -75,16 +75,16 @@ listings_more : (mailboxes : List (List ℕ)) (mailbox : List ℕ) (rows : List 
 listings_more [] mailbox rows = refl
 listings_more (m ∷ ms) mailbox rows = ap (λ l. listed m rows ∷ l) (listings_more ms mailbox rows)
 
-finds_once : (epoch : ℕ) (mailboxes : List (List ℕ)) (mailbox : List ℕ) (found found' : Findings) (files : List FileRow) → found' ≡ with_mailbox epoch found files
+finds_once : (epoch : ℕ) (mailboxes : List (List ℕ)) (mailbox : List ℕ) (found found' : Findings) (files : List FileRow) → found' ≡ with_files_of epoch found files
     → (x y z : Told) → FindsSome epoch mailboxes found x y → (files ≡ listed mailbox y.files.rows) × (z.files ≡ y.files) → FindsSome epoch (mailboxes ++ mailbox ∷ []) found' x z
 finds_once epoch mailboxes mailbox found found' files with x y z so_far lists = (
-  with ∙ ap (λ f. with_mailbox epoch f files) so_far.0 ∙ ap (with_mailbox epoch (findings_of epoch (listings mailboxes x.files.rows))) (lists.0 ∙ ap (λ (f : Files). listed mailbox f.rows) so_far.1)
+  with ∙ ap (λ f. with_files_of epoch f files) so_far.0 ∙ ap (with_files_of epoch (findings_of epoch (listings mailboxes x.files.rows))) (lists.0 ∙ ap (λ (f : Files). listed mailbox f.rows) so_far.1)
       ∙ sym (ap (findings_of epoch) (listings_more mailboxes mailbox x.files.rows) ∙ findings_more epoch (listings mailboxes x.files.rows) (listed mailbox x.files.rows)),
   lists.1 ∙ so_far.1,
 )
 
 pub finds_more : {A : Type 0} (E : Type 0) (epoch : ℕ) (mailboxes : List (List ℕ)) (i : ℕ) (mailbox : List ℕ) → i < length mailboxes → mailbox ≡ get_or mailboxes i mailbox
-    → (found found' : Findings) (files : Vec FileRow A) → found' ≡ with_mailbox epoch found files.items → (a b c : Option Told)
+    → (found found' : Findings) (files : Vec FileRow A) → found' ≡ with_files_of epoch found files.items → (a b c : Option Told)
     → Changes (FindsSome epoch (take i mailboxes) found) a b → Changes (Lists {A = A} {E = E} mailbox (Ok files)) b c → Changes (FindsSome epoch (take (i + 1) mailboxes) found') a c
 finds_more E epoch mailboxes i mailbox inside is found found' files with a b c so_far lists =
     let more : take (i + 1) mailboxes ≡ take i mailboxes ++ mailbox ∷ [] = take_more mailboxes i mailbox inside ∙ ap (λ (m : List ℕ). take i mailboxes ++ m ∷ []) (sym is) in

@@ -29,14 +29,14 @@ abbrev pub noted : BTreeMap (Bor (List ℕ)) ℕ → List ℕ → Option ℕ
 noted notes base = get_by (λ key. slice_cmp nat_cmp base key.now) notes
 
 -- what is noted of a base that stands so often: nothing, once, or twice and more
-abbrev pub note_of : ℕ → Option ℕ
-note_of zero = None
-note_of (suc zero) = Some 1
-note_of (suc (suc n)) = Some 2
+abbrev pub count_up_to_two : ℕ → Option ℕ
+count_up_to_two zero = None
+count_up_to_two (suc zero) = Some 1
+count_up_to_two (suc (suc n)) = Some 2
 
 -- this is noted of each base of the files
-abbrev pub AreNoted : BTreeMap (Bor (List ℕ)) ℕ → List FileRow → Type 0
-AreNoted notes files = (base : List ℕ) → noted notes base ≡ note_of (times_in files base)
+abbrev pub AreCounted : BTreeMap (Bor (List ℕ)) ℕ → List FileRow → Type 0
+AreCounted notes files = (base : List ℕ) → noted notes base ≡ count_up_to_two (times_in files base)
 
 -- no base stands twice
 abbrev pub AreApart : List FileRow → Type 0
@@ -79,8 +79,8 @@ abbrev pub no_findings : Findings
 no_findings = record { files = 0; double = None; used = None }
 
 -- what some mailboxes come to with one more
-abbrev pub with_mailbox : ℕ → Findings → List FileRow → Findings
-with_mailbox epoch found files = record {
+abbrev pub with_files_of : ℕ → Findings → List FileRow → Findings
+with_files_of epoch found files = record {
   files = min (found.files + length files) (2 ^ 64 - 1);
   double = option_or found.double (option_map shown (double_in files));
   used = option_or found.used (option_map shown (used_in epoch files));

@@ -1,7 +1,7 @@
 // The bases of a mailbox's files: one that stands twice, and one that a delivery could have.
 ghost use Rattle.std.specs.Prelude.{◌≡◌, ◌++◌, ℕ, List, Some, is_some, unwrap_or, nat_lt, bytes_eq, codes, decimal, if◌then◌else◌, IfOk, MatchOption};
 ghost use Rattle.std.specs.Option.{option_map};
-ghost use Rattle.account_opening.specs.Bases.{AreApart, AreNoted, base_in, double_in, noted, shown, used_in};
+ghost use Rattle.account_opening.specs.Bases.{AreApart, AreCounted, base_in, double_in, noted, shown, used_in};
 
 use keeper::FileRow;
 use message_names::base_of;
@@ -16,7 +16,7 @@ fn base_in(file: &FileRow) -> &[u8]
 }
 
 /// Notes one more file of this base, up to the second, and tells whether one was noted before.
-fn note<'a>(notes: &mut BTreeMap<&'a [u8], u8>, base: &'a [u8]) -> Result<bool, AllocError>
+fn count_base<'a>(notes: &mut BTreeMap<&'a [u8], u8>, base: &'a [u8]) -> Result<bool, AllocError>
     ensures again { IfOk result (λ again. again ≡ is_some (noted notes.old base.now)) }
     ensures notes { IfOk result (λ again. (other : List ℕ) → noted notes.new other ≡ (if bytes_eq base.now other then Some (if again then 2 else 1) else noted notes.old other)) }
 {
@@ -32,12 +32,12 @@ fn repeats_in<'a>(
     alloc: Global,
     files: &'a [FileRow],
 ) -> Result<Option<BTreeMap<&'a [u8], u8>>, AllocError>
-    ensures { IfOk result (λ repeats. MatchOption repeats (AreApart files.now) (λ notes. AreNoted notes files.now)) }
+    ensures { IfOk result (λ repeats. MatchOption repeats (AreApart files.now) (λ notes. AreCounted notes files.now)) }
 {
     let mut notes = BTreeMap::new(alloc);
     let mut repeats = false;
     for file in files {
-        let again = note(&mut notes, base_in(file))?;
+        let again = count_base(&mut notes, base_in(file))?;
         repeats = repeats || again;
     }
     if repeats { Ok(Some(notes)) } else { Ok(None) }

@@ -2,7 +2,7 @@
 ghost use Rattle.std.specs.Prelude.{◌+◌, ◌≡◌, ◌++◌, codes, decimal, IfOk, IsErrOf};
 ghost use Rattle.quota_units.specs.Causes.{HasCause};
 ghost use Rattle.keeper.specs.Calls.{Changes, Spends};
-ghost use Rattle.account_opening.specs.Bases.{no_findings, with_mailbox};
+ghost use Rattle.account_opening.specs.Bases.{no_findings, with_files_of};
 ghost use Rattle.account_opening.specs.Admitting.{Finds};
 
 use crate::bases::{double_in, used_in};
@@ -42,7 +42,7 @@ impl Findings {
         files: &[FileRow],
     ) -> Result<Findings, AllocError>
         requires { prefix.now ≡ decimal epoch ++ codes "." }
-        ensures { IfOk result (λ found. found ≡ with_mailbox epoch self files.now) }
+        ensures { IfOk result (λ found. found ≡ with_files_of epoch self files.now) }
     {
         let Findings {
             files: count,

@@ -16,7 +16,7 @@ use Rattle.std.specs.Ordering.{nat_cmp}
 use Rattle.std.specs.Str.{str_eq_ignore_ascii_case, str_to_ascii_lowercase}
 use Rattle.std.proofs.lemmas.Map.Text.{btree_map_updates_str}
 use denote.Ref.{Bor}
-use Rattle.accounts_file.specs.Doubles.{AreNoted, all_recipients, doubles_refusal, first_repeat, has_same, is_noted, own_double, repeated, repeated_in_any_case}
+use Rattle.accounts_file.specs.Doubles.{AreInserted, all_recipients, doubles_refusal, first_repeat, has_same, is_inserted, own_double, repeated, repeated_in_any_case}
 use Rattle.accounts_file.specs.Hosts.{AreDifferent}
 use Rattle.accounts_file.specs.Refusals.{double, first_in}
 use Rattle.accounts_file.specs.declared.error.AccountsError.TheVariants.{NoMemory}
@@ -52,7 +52,7 @@ some_or false x old = refl
 
 -- one more text is noted
 pub noted_one : {X : Type 0} (text : List ℕ) (old new : BTreeMap (Bor (List ℕ)) X) (x : X) → UpdatesBy (λ a b. slice_cmp nat_cmp a.now b.now) (λ k. slice_cmp nat_cmp text k.now) old new (Some x)
-    → (other : List ℕ) → is_noted new other ≡ (bytes_eq text other || is_noted old other)
+    → (other : List ℕ) → is_inserted new other ≡ (bytes_eq text other || is_inserted old other)
 noted_one {X} text old new x updates other =
     ap (λ (o : Option X). is_some o) (btree_map_updates_str text old new (Some x) updates other) ∙ some_or (bytes_eq text other) x (get_by (λ k. slice_cmp nat_cmp other k.now) old)
 
@@ -74,20 +74,20 @@ lower_at {A} names lower at d e all count within =
 
 -- one more name is noted
 pub noted_more : {X : Type 0} (names : List (List ℕ)) (at : ℕ) (d here : List ℕ) (old new : BTreeMap (Bor (List ℕ)) X) → at < length names → here ≡ str_to_ascii_lowercase (get_or names at d)
-    → ((other : List ℕ) → is_noted new other ≡ (bytes_eq here other || is_noted old other)) → AreNoted old (take at names) → AreNoted new (take (at + 1) names)
+    → ((other : List ℕ) → is_inserted new other ≡ (bytes_eq here other || is_inserted old other)) → AreInserted old (take at names) → AreInserted new (take (at + 1) names)
 noted_more names at d here old new within is writes noted text =
     let name = get_or names at d in
     writes text
-    ∙ ap (λ h. bytes_eq h text || is_noted old text) is
+    ∙ ap (λ h. bytes_eq h text || is_inserted old text) is
     ∙ ap (λ b. is_lower text name || b) (noted text)
     ∙ or_last (list_any (is_lower text) (take at names)) (is_lower text name)
     ∙ sym (list_any-append (is_lower text) (take at names) (name ∷ []))
     ∙ ap (list_any (is_lower text)) (sym (take_more names at d within))
 
 -- a name was noted exactly where it stood before, in any ASCII case
-pub noted_before : {X : Type 0} (names : List (List ℕ)) (at : ℕ) (d here : List ℕ) (notes : BTreeMap (Bor (List ℕ)) X) → here ≡ str_to_ascii_lowercase (get_or names at d) → AreNoted notes (take at names)
-    → is_noted notes here ≡ has_same str_eq_ignore_ascii_case (take at names) (get_or names at d)
-noted_before names at d here notes is noted = ap (is_noted notes) is ∙ noted (str_to_ascii_lowercase (get_or names at d))
+pub noted_before : {X : Type 0} (names : List (List ℕ)) (at : ℕ) (d here : List ℕ) (notes : BTreeMap (Bor (List ℕ)) X) → here ≡ str_to_ascii_lowercase (get_or names at d) → AreInserted notes (take at names)
+    → is_inserted notes here ≡ has_same str_eq_ignore_ascii_case (take at names) (get_or names at d)
+noted_before names at d here notes is noted = ap (is_inserted notes) is ∙ noted (str_to_ascii_lowercase (get_or names at d))
 
 recipients_push : (accounts : List AccountEntry) (account : AccountEntry) → all_recipients (accounts ++ account ∷ []) ≡ all_recipients accounts ++ account.recipients
 recipients_push [] account = append-nil account.recipients

@@ -31,12 +31,12 @@ abbrev pub repeated_in_any_case : List (List ℕ) → Option (List ℕ)
 repeated_in_any_case names = first_repeat str_eq_ignore_ascii_case [] names
 
 -- a text is noted
-abbrev pub is_noted : {X : Type 0} → BTreeMap (Bor (List ℕ)) X → List ℕ → Bool
-is_noted notes text = is_some (get_by (λ key. slice_cmp nat_cmp text key.now) notes)
+abbrev pub is_inserted : {X : Type 0} → BTreeMap (Bor (List ℕ)) X → List ℕ → Bool
+is_inserted notes text = is_some (get_by (λ key. slice_cmp nat_cmp text key.now) notes)
 
 -- these names are noted in lower case, and no other text is
-abbrev pub AreNoted : {X : Type 0} → BTreeMap (Bor (List ℕ)) X → List (List ℕ) → Type 0
-AreNoted notes names = (text : List ℕ) → is_noted notes text ≡ list_any (λ name. bytes_eq (str_to_ascii_lowercase name) text) names
+abbrev pub AreInserted : {X : Type 0} → BTreeMap (Bor (List ℕ)) X → List (List ℕ) → Type 0
+AreInserted notes names = (text : List ℕ) → is_inserted notes text ≡ list_any (λ name. bytes_eq (str_to_ascii_lowercase name) text) names
 
 -- the name of the first root whose name stood before
 abbrev pub repeated_root : List RootSpec → Option (List ℕ)

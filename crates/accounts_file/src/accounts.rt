@@ -31,7 +31,7 @@ fn without_inbox(names: Vec<Name>) -> Vec<Name>
     ensures { result.items ≡ without_first (codes "INBOX") names.items }
 {
     let mut names = names;
-    match place_of_inbox(&names) {
+    match index_of_inbox(&names) {
         None => names,
         Some(at) => {
             names.remove(at);
@@ -40,7 +40,7 @@ fn without_inbox(names: Vec<Name>) -> Vec<Name>
     }
 }
 
-fn place_of_inbox(names: &[Name]) -> Option<usize>
+fn index_of_inbox(names: &[Name]) -> Option<usize>
     ensures value { result ≡ position (λ name. bytes_eq name (codes "INBOX")) names.now }
     ensures within { IfSome result (λ at. at < length names.now) }
 {

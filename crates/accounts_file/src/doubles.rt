@@ -3,7 +3,7 @@ ghost use Rattle.std.specs.Option.{option_map};
 ghost use Rattle.std.specs.Str.{str_to_ascii_lowercase};
 ghost use Rattle.quota_roots.specs.RootLists.{first_double};
 ghost use Rattle.quota_roots.specs.Setups.{IsSound};
-ghost use Rattle.accounts_file.specs.Doubles.{all_recipients, doubles_refusal, has_same, is_noted, own_double, repeated, repeated_in_any_case, repeated_root};
+ghost use Rattle.accounts_file.specs.Doubles.{all_recipients, doubles_refusal, has_same, is_inserted, own_double, repeated, repeated_in_any_case, repeated_root};
 ghost use Rattle.accounts_file.specs.Hosts.{AreDifferent};
 ghost use Rattle.accounts_file.specs.Refusals.{double, first_in, Checks, Reads};
 
@@ -51,9 +51,9 @@ fn in_lower_case(alloc: Global, names: &[Name]) -> Result<Vec<Vec<u8>>, AllocErr
 
 /// Notes a text, and tells whether it was noted before.
 #[tactic(auto, using(crate::proofs::DoubleLemmas::noted_one))]
-fn note<'a>(notes: &mut BTreeMap<&'a [u8], ()>, text: &'a [u8]) -> Result<bool, AllocError>
-    ensures again { IfOk result (λ again. again ≡ is_noted notes.old text.now) }
-    ensures notes { OnOk result ((other : List ℕ) → is_noted notes.new other ≡ (bytes_eq text.now other || is_noted notes.old other)) }
+fn insert_text<'a>(notes: &mut BTreeMap<&'a [u8], ()>, text: &'a [u8]) -> Result<bool, AllocError>
+    ensures again { IfOk result (λ again. again ≡ is_inserted notes.old text.now) }
+    ensures notes { OnOk result ((other : List ℕ) → is_inserted notes.new other ≡ (bytes_eq text.now other || is_inserted notes.old other)) }
 {
     Ok(notes.insert(text, ())?.is_some())
 }
@@ -69,7 +69,7 @@ fn repeated_in_any_case<'a>(
     let lower = in_lower_case(alloc, names)?;
     let mut notes = BTreeMap::new(alloc);
     for (at, name) in names.iter().enumerate() {
-        if note(&mut notes, lower[at].as_slice())? {
+        if insert_text(&mut notes, lower[at].as_slice())? {
             return Ok(Some(name));
         }
     }

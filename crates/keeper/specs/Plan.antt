@@ -24,14 +24,14 @@ new_plan fails = record {
 }
 
 -- the row of a kind in the table of calls
-abbrev pub place_of : KeepCall → ℕ
-place_of ListCall = 0
-place_of Put = 1
-place_of Rename = 2
-place_of Remove = 3
-place_of ReadLedger = 4
-place_of AppendLedger = 5
-place_of InstallLedger = 6
+abbrev pub index_of : KeepCall → ℕ
+index_of ListCall = 0
+index_of Put = 1
+index_of Rename = 2
+index_of Remove = 3
+index_of ReadLedger = 4
+index_of AppendLedger = 5
+index_of InstallLedger = 6
 
 abbrev pub count_of : KeepCall → CallCounts → ℕ
 count_of ListCall made = made.list
@@ -43,18 +43,18 @@ count_of AppendLedger made = made.append_ledger
 count_of InstallLedger made = made.install_ledger
 
 -- with one more of this kind
-abbrev pub counted : KeepCall → CallCounts → CallCounts
-counted ListCall made = record made { list = next_count made.list }
-counted Put made = record made { put = next_count made.put }
-counted Rename made = record made { rename = next_count made.rename }
-counted Remove made = record made { remove = next_count made.remove }
-counted ReadLedger made = record made { read_ledger = next_count made.read_ledger }
-counted AppendLedger made = record made { append_ledger = next_count made.append_ledger }
-counted InstallLedger made = record made { install_ledger = next_count made.install_ledger }
+abbrev pub with_one_more : KeepCall → CallCounts → CallCounts
+with_one_more ListCall made = record made { list = next_count made.list }
+with_one_more Put made = record made { put = next_count made.put }
+with_one_more Rename made = record made { rename = next_count made.rename }
+with_one_more Remove made = record made { remove = next_count made.remove }
+with_one_more ReadLedger made = record made { read_ledger = next_count made.read_ledger }
+with_one_more AppendLedger made = record made { append_ledger = next_count made.append_ledger }
+with_one_more InstallLedger made = record made { install_ledger = next_count made.install_ledger }
 
 -- it is this call that is to fail
 abbrev pub names : KeepCall → ℕ → KeepFail → Bool
-names kind nth fail = nat_eq (place_of fail.kind) (place_of kind) && nat_eq fail.nth nth
+names kind nth fail = nat_eq (index_of fail.kind) (index_of kind) && nat_eq fail.nth nth
 
 -- the number of the next call of this kind
 abbrev pub next_of : KeepCall → Planned → ℕ
@@ -66,7 +66,7 @@ fails_next kind plan = list_any (names kind (next_of kind plan)) plan.fails
 
 -- after a call of this kind that did not fail
 abbrev pub called : KeepCall → Planned → Planned
-called kind plan = record plan { made = counted kind plan.made }
+called kind plan = record plan { made = with_one_more kind plan.made }
 
 -- without the entries that name the next call of this kind
 abbrev pub fails_left : KeepCall → Planned → List KeepFail
@@ -80,18 +80,18 @@ is_append kind = false
 abbrev pub failed : KeepCall → Planned → Planned
 failed kind plan = record {
   fails = fails_left kind plan;
-  made = counted kind plan.made;
+  made = with_one_more kind plan.made;
   faults = if is_append kind then plan.faults else next_count plan.faults;
   append_faults = if is_append kind then next_count plan.append_faults else plan.append_faults;
 }
 
 -- after the next call of this kind
-abbrev pub after_call : KeepCall → Planned → Planned
-after_call kind plan = if fails_next kind plan then failed kind plan else called kind plan
+abbrev pub plan_after : KeepCall → Planned → Planned
+plan_after kind plan = if fails_next kind plan then failed kind plan else called kind plan
 
 -- the count that the failures of this kind raise, and the other one
-abbrev pub faults_of : KeepCall → Planned → ℕ
-faults_of kind plan = if is_append kind then plan.append_faults else plan.faults
+abbrev pub faults_of_kind : KeepCall → Planned → ℕ
+faults_of_kind kind plan = if is_append kind then plan.append_faults else plan.faults
 
 abbrev pub other_faults : KeepCall → Planned → ℕ
 other_faults kind plan = if is_append kind then plan.faults else plan.append_faults

@@ -110,7 +110,7 @@ impl MemFiles {
     /// Writes a text in place of a ledger. It takes no memory.
     pub(crate) fn install_ledger(&mut self, root: u32, text: &[u8])
         requires root { root < 4 }
-        requires room { length text.now < 5120 }
+        requires short { length text.now < 5120 }
         ensures { Writes root text.now self.old self.new }
     {
         self.ledgers[root as usize].install(text);

@@ -2,7 +2,7 @@ ghost use Rattle.std.specs.Prelude.{◌≡◌, ◌≢◌, ◌<◌, ◌+◌, Some
 ghost use Rattle.quota_units.specs.Causes.{HasCause, next_count};
 ghost use Rattle.keeper.specs.Files.{ledger_bytes, no_files};
 ghost use Rattle.keeper.specs.Calls.{Changes, Spends, Lists, Puts, Renames, Removes, Reads, Appends, Installs};
-ghost use Rattle.keeper.specs.Memory.{told_safely};
+ghost use Rattle.keeper.specs.Memory.{told_of_fixed};
 
 use crate::files::MemFiles;
 use crate::{FileRow, KeepError, Keeper};
@@ -18,9 +18,9 @@ pub struct FixedKeeper {
 }
 
 impl Model for FixedKeeper {
-    ghost use Rattle.keeper.specs.Memory.{SafeKeeper};
+    ghost use Rattle.keeper.specs.Memory.{FixedKeeper};
 
-    ghost Value = { SafeKeeper };
+    ghost Value = { FixedKeeper };
 
     ghost view = { λ k. record { files = k.files; lists = k.lists } };
 }
@@ -42,7 +42,7 @@ impl FixedKeeper {
 }
 
 impl Keeper for FixedKeeper {
-    ghost told = { λ k. Some (told_safely k) };
+    ghost told = { λ k. Some (told_of_fixed k) };
 
     ghost faults = { λ _. 0 };
 
@@ -51,9 +51,9 @@ impl Keeper for FixedKeeper {
     ghost lists = { λ k. k.lists };
 
     fn list(&mut self, alloc: Global, mailbox: &[u8]) -> Result<Vec<FileRow>, KeepError>
-        ensures files { Changes (Lists mailbox.now result) (Some (told_safely self.old)) (Some (told_safely self.new)) }
+        ensures files { Changes (Lists mailbox.now result) (Some (told_of_fixed self.old)) (Some (told_of_fixed self.new)) }
         ensures cause { HasCause (IsErrOf result KeepError.Failed) 0 0 }
-        ensures due { Changes (Spends (IsErrOf result KeepError.Failed) 0 0) (Some (told_safely self.old)) (Some (told_safely self.new)) }
+        ensures due { Changes (Spends (IsErrOf result KeepError.Failed) 0 0) (Some (told_of_fixed self.old)) (Some (told_of_fixed self.new)) }
         ensures listings { self.new.lists ≡ next_count self.old.lists }
         ensures works { result ≢ Err KeepError.Failed }
     {
@@ -68,9 +68,9 @@ impl Keeper for FixedKeeper {
         name: &[u8],
         octets: &[u8],
     ) -> Result<(), KeepError>
-        ensures files { Changes (Puts mailbox.now name.now octets.now result) (Some (told_safely self.old)) (Some (told_safely self.new)) }
+        ensures files { Changes (Puts mailbox.now name.now octets.now result) (Some (told_of_fixed self.old)) (Some (told_of_fixed self.new)) }
         ensures cause { HasCause (IsErrOf result KeepError.Failed) 0 0 }
-        ensures due { Changes (Spends (IsErrOf result KeepError.Failed) 0 0) (Some (told_safely self.old)) (Some (told_safely self.new)) }
+        ensures due { Changes (Spends (IsErrOf result KeepError.Failed) 0 0) (Some (told_of_fixed self.old)) (Some (told_of_fixed self.new)) }
         ensures listings { self.new.lists ≡ self.old.lists }
         ensures works { result ≢ Err KeepError.Failed }
     {
@@ -85,9 +85,9 @@ impl Keeper for FixedKeeper {
         to: &[u8],
         new_name: &[u8],
     ) -> Result<(), KeepError>
-        ensures files { Changes (Renames from.now name.now to.now new_name.now result) (Some (told_safely self.old)) (Some (told_safely self.new)) }
+        ensures files { Changes (Renames from.now name.now to.now new_name.now result) (Some (told_of_fixed self.old)) (Some (told_of_fixed self.new)) }
         ensures cause { HasCause (IsErrOf result KeepError.Failed) 0 0 }
-        ensures due { Changes (Spends (IsErrOf result KeepError.Failed) 0 0) (Some (told_safely self.old)) (Some (told_safely self.new)) }
+        ensures due { Changes (Spends (IsErrOf result KeepError.Failed) 0 0) (Some (told_of_fixed self.old)) (Some (told_of_fixed self.new)) }
         ensures listings { self.new.lists ≡ self.old.lists }
         ensures works { result ≢ Err KeepError.Failed }
     {
@@ -95,9 +95,9 @@ impl Keeper for FixedKeeper {
     }
 
     fn remove(&mut self, mailbox: &[u8], name: &[u8]) -> Result<(), Failed>
-        ensures files { Changes (Removes mailbox.now name.now result) (Some (told_safely self.old)) (Some (told_safely self.new)) }
+        ensures files { Changes (Removes mailbox.now name.now result) (Some (told_of_fixed self.old)) (Some (told_of_fixed self.new)) }
         ensures cause { HasCause (IsErr result) 0 0 }
-        ensures due { Changes (Spends (IsErr result) 0 0) (Some (told_safely self.old)) (Some (told_safely self.new)) }
+        ensures due { Changes (Spends (IsErr result) 0 0) (Some (told_of_fixed self.old)) (Some (told_of_fixed self.new)) }
         ensures listings { self.new.lists ≡ self.old.lists }
         ensures works { IsOk result }
     {
@@ -107,9 +107,9 @@ impl Keeper for FixedKeeper {
 
     fn read_ledger(&mut self, alloc: Global, root: u32) -> Result<Option<Vec<u8>>, KeepError>
         requires { root < 4 }
-        ensures files { Changes (Reads root result) (Some (told_safely self.old)) (Some (told_safely self.new)) }
+        ensures files { Changes (Reads root result) (Some (told_of_fixed self.old)) (Some (told_of_fixed self.new)) }
         ensures cause { HasCause (IsErrOf result KeepError.Failed) 0 0 }
-        ensures due { Changes (Spends (IsErrOf result KeepError.Failed) 0 0) (Some (told_safely self.old)) (Some (told_safely self.new)) }
+        ensures due { Changes (Spends (IsErrOf result KeepError.Failed) 0 0) (Some (told_of_fixed self.old)) (Some (told_of_fixed self.new)) }
         ensures listings { self.new.lists ≡ self.old.lists }
         ensures works { result ≢ Err KeepError.Failed }
     {
@@ -119,9 +119,9 @@ impl Keeper for FixedKeeper {
     fn append_ledger(&mut self, root: u32, line: &[u8]) -> Result<(), Failed>
         requires root { root < 4 }
         requires room { length (ledger_bytes self.old.files root) + length line.now < 5120 }
-        ensures files { Changes (Appends root line.now result) (Some (told_safely self.old)) (Some (told_safely self.new)) }
+        ensures files { Changes (Appends root line.now result) (Some (told_of_fixed self.old)) (Some (told_of_fixed self.new)) }
         ensures cause { HasCause (IsErr result) 0 0 }
-        ensures due { Changes (Spends (IsErr result) 0 0) (Some (told_safely self.old)) (Some (told_safely self.new)) }
+        ensures due { Changes (Spends (IsErr result) 0 0) (Some (told_of_fixed self.old)) (Some (told_of_fixed self.new)) }
         ensures listings { self.new.lists ≡ self.old.lists }
         ensures works { IsOk result }
     {
@@ -131,10 +131,10 @@ impl Keeper for FixedKeeper {
 
     fn install_ledger(&mut self, root: u32, text: &[u8]) -> Result<(), Failed>
         requires root { root < 4 }
-        requires room { length text.now < 5120 }
-        ensures files { Changes (Installs root text.now result) (Some (told_safely self.old)) (Some (told_safely self.new)) }
+        requires short { length text.now < 5120 }
+        ensures files { Changes (Installs root text.now result) (Some (told_of_fixed self.old)) (Some (told_of_fixed self.new)) }
         ensures cause { HasCause (IsErr result) 0 0 }
-        ensures due { Changes (Spends (IsErr result) 0 0) (Some (told_safely self.old)) (Some (told_safely self.new)) }
+        ensures due { Changes (Spends (IsErr result) 0 0) (Some (told_of_fixed self.old)) (Some (told_of_fixed self.new)) }
         ensures listings { self.new.lists ≡ self.old.lists }
         ensures works { IsOk result }
     {

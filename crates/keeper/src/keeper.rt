@@ -124,7 +124,7 @@ pub trait Keeper {
     /// `Failed` where the store failed.
     fn install_ledger(&mut self, root: u32, text: &[u8]) -> Result<(), Failed>
         requires root { root < 4 }
-        requires room { length text.now < 5120 }
+        requires short { length text.now < 5120 }
         ensures files { Changes (Installs root text.now result) (told self.old) (told self.new) }
         ensures cause { HasCause (IsErr result) (faults self.old) (faults self.new) }
         ensures due { Changes (Spends (IsErr result) (faults self.old) (faults self.new)) (told self.old) (told self.new) }

@@ -119,7 +119,7 @@ pub(crate) fn put(
 }
 
 /// The place of the first row of this mailbox and name.
-fn place_of(rows: &[KeptRow], mailbox: &[u8], name: &[u8]) -> Option<usize>
+fn index_of(rows: &[KeptRow], mailbox: &[u8], name: &[u8]) -> Option<usize>
     ensures value { result ≡ position (is_named mailbox.now name.now) rows.now }
     ensures within { IfSome result (λ at. at < length rows.now) }
 {
@@ -131,7 +131,7 @@ fn place_of(rows: &[KeptRow], mailbox: &[u8], name: &[u8]) -> Option<usize>
 pub(crate) fn remove(rows: &mut Vec<KeptRow>, mailbox: &[u8], name: &[u8])
     ensures { rows.new.items ≡ removed mailbox.now name.now rows.old.items }
 {
-    if let Some(at) = place_of(rows, mailbox, name) {
+    if let Some(at) = index_of(rows, mailbox, name) {
         let _row = rows.remove(at);
     }
 }
@@ -151,7 +151,7 @@ pub(crate) fn rename(
 {
     let mailbox = to.to_vec(alloc)?;
     let new_name = Bytes::new(new_name.to_vec(alloc)?);
-    if let Some(at) = place_of(rows, from, name) {
+    if let Some(at) = index_of(rows, from, name) {
         rows[at].rename(mailbox, new_name);
     }
     Ok(())

@@ -18,9 +18,9 @@ pub struct MemStores {
 }
 
 impl Model for MemStores {
-    ghost use Rattle.keeper.specs.Memory.{MemoryStores};
+    ghost use Rattle.keeper.specs.Memory.{MemStores};
 
-    ghost Value = { MemoryStores };
+    ghost Value = { MemStores };
 
     ghost view = { λ s. record { accounts = s.keepers.items; faults = s.faults } };
 }
@@ -35,7 +35,7 @@ impl MemStores {
 }
 
 /// The place of the first account of this name.
-fn place_of(keepers: &[(Name, Option<MemKeeper>)], name: &[u8]) -> Option<usize>
+fn index_of(keepers: &[(Name, Option<MemKeeper>)], name: &[u8]) -> Option<usize>
     ensures value { result ≡ position (λ account. bytes_eq account.0 name.now) keepers.now }
     ensures within { IfSome result (λ at. at < length keepers.now) }
 {
@@ -50,7 +50,7 @@ fn take(keepers: &mut Vec<(Name, Option<MemKeeper>)>, name: &[u8]) -> Option<Mem
     ensures value { result ≡ keeper_in name.now keepers.old.items }
     ensures after { keepers.new.items ≡ with_keeper name.now None keepers.old.items }
 {
-    match place_of(keepers, name) {
+    match index_of(keepers, name) {
         None => None,
         Some(at) => {
             let account = &mut keepers[at];
@@ -64,7 +64,7 @@ fn take(keepers: &mut Vec<(Name, Option<MemKeeper>)>, name: &[u8]) -> Option<Mem
 fn put(keepers: &mut Vec<(Name, Option<MemKeeper>)>, name: &[u8], keeper: MemKeeper)
     ensures { keepers.new.items ≡ with_keeper name.now (Some keeper) keepers.old.items }
 {
-    if let Some(at) = place_of(keepers, name) {
+    if let Some(at) = index_of(keepers, name) {
         let account = &mut keepers[at];
         account.1 = Some(keeper);
     }

@@ -2,7 +2,7 @@ ghost use Rattle.std.specs.Prelude.{◌≡◌, ◌<◌, ◌≤◌, ◌+◌, ◌/
 ghost use Rattle.quota_units.specs.Causes.{HasCause, next_count};
 ghost use Rattle.keeper.specs.Files.{four_ledgers, ledger_at, ledger_bytes};
 ghost use Rattle.keeper.specs.Calls.{Changes, Spends, Lists, Puts, Renames, Removes, Reads, Appends, Installs};
-ghost use Rattle.keeper.specs.Plan.{fails_next, after_call, new_plan};
+ghost use Rattle.keeper.specs.Plan.{fails_next, plan_after, new_plan};
 ghost use Rattle.keeper.specs.Memory.{told_of};
 
 use crate::files::MemFiles;
@@ -22,9 +22,9 @@ pub struct MemKeeper {
 }
 
 impl Model for MemKeeper {
-    ghost use Rattle.keeper.specs.Memory.{MemoryKeeper};
+    ghost use Rattle.keeper.specs.Memory.{MemKeeper};
 
-    ghost Value = { MemoryKeeper };
+    ghost Value = { MemKeeper };
 
     ghost view = { λ k. record { files = k.files; plan = k.plan } };
 }
@@ -83,7 +83,7 @@ impl Keeper for MemKeeper {
         ensures appends { self.new.plan.append_faults ≡ self.old.plan.append_faults }
         ensures listings { self.new.plan.made.list ≡ next_count self.old.plan.made.list }
         ensures fails { (IsErrOf result KeepError.Failed) ↔ IsTrue (fails_next KeepCall.List self.old.plan) }
-        ensures plan { self.new.plan ≡ after_call KeepCall.List self.old.plan }
+        ensures plan { self.new.plan ≡ plan_after KeepCall.List self.old.plan }
     {
         self.plan.call(KeepCall::List)?;
         Ok(self.files.list(alloc, mailbox)?)
@@ -102,7 +102,7 @@ impl Keeper for MemKeeper {
         ensures appends { self.new.plan.append_faults ≡ self.old.plan.append_faults }
         ensures listings { self.new.plan.made.list ≡ self.old.plan.made.list }
         ensures fails { (IsErrOf result KeepError.Failed) ↔ IsTrue (fails_next KeepCall.Put self.old.plan) }
-        ensures plan { self.new.plan ≡ after_call KeepCall.Put self.old.plan }
+        ensures plan { self.new.plan ≡ plan_after KeepCall.Put self.old.plan }
     {
         self.plan.call(KeepCall::Put)?;
         self.files.put(alloc, mailbox, name, octets)?;
@@ -123,7 +123,7 @@ impl Keeper for MemKeeper {
         ensures appends { self.new.plan.append_faults ≡ self.old.plan.append_faults }
         ensures listings { self.new.plan.made.list ≡ self.old.plan.made.list }
         ensures fails { (IsErrOf result KeepError.Failed) ↔ IsTrue (fails_next KeepCall.Rename self.old.plan) }
-        ensures plan { self.new.plan ≡ after_call KeepCall.Rename self.old.plan }
+        ensures plan { self.new.plan ≡ plan_after KeepCall.Rename self.old.plan }
     {
         self.plan.call(KeepCall::Rename)?;
         self.files.rename(alloc, from, name, to, new_name)?;
@@ -137,7 +137,7 @@ impl Keeper for MemKeeper {
         ensures appends { self.new.plan.append_faults ≡ self.old.plan.append_faults }
         ensures listings { self.new.plan.made.list ≡ self.old.plan.made.list }
         ensures fails { (IsErr result) ↔ IsTrue (fails_next KeepCall.Remove self.old.plan) }
-        ensures plan { self.new.plan ≡ after_call KeepCall.Remove self.old.plan }
+        ensures plan { self.new.plan ≡ plan_after KeepCall.Remove self.old.plan }
     {
         self.plan.call(KeepCall::Remove)?;
         self.files.remove(mailbox, name);
@@ -152,7 +152,7 @@ impl Keeper for MemKeeper {
         ensures appends { self.new.plan.append_faults ≡ self.old.plan.append_faults }
         ensures listings { self.new.plan.made.list ≡ self.old.plan.made.list }
         ensures fails { (IsErrOf result KeepError.Failed) ↔ IsTrue (fails_next KeepCall.ReadLedger self.old.plan) }
-        ensures plan { self.new.plan ≡ after_call KeepCall.ReadLedger self.old.plan }
+        ensures plan { self.new.plan ≡ plan_after KeepCall.ReadLedger self.old.plan }
     {
         self.plan.call(KeepCall::ReadLedger)?;
         Ok(self.files.read_ledger(alloc, root)?)
@@ -168,7 +168,7 @@ impl Keeper for MemKeeper {
         ensures others { self.new.plan.faults ≡ self.old.plan.faults }
         ensures listings { self.new.plan.made.list ≡ self.old.plan.made.list }
         ensures fails { (IsErr result) ↔ IsTrue (fails_next KeepCall.AppendLedger self.old.plan) }
-        ensures plan { self.new.plan ≡ after_call KeepCall.AppendLedger self.old.plan }
+        ensures plan { self.new.plan ≡ plan_after KeepCall.AppendLedger self.old.plan }
         ensures torn { OnErr result (ledger_at self.new.files root ≡ Some (ledger_bytes self.old.files root ++ take (length line.now / 2) line.now)) }
     {
         if let Err(fault) = self.plan.call(KeepCall::AppendLedger) {
@@ -181,14 +181,14 @@ impl Keeper for MemKeeper {
 
     fn install_ledger(&mut self, root: u32, text: &[u8]) -> Result<(), Failed>
         requires root { root < 4 }
-        requires room { length text.now < 5120 }
+        requires short { length text.now < 5120 }
         ensures files { Changes (Installs root text.now result) (Some (told_of self.old)) (Some (told_of self.new)) }
         ensures cause { HasCause (IsErr result) self.old.plan.faults self.new.plan.faults }
         ensures due { Changes (Spends (IsErr result) self.old.plan.faults self.new.plan.faults) (Some (told_of self.old)) (Some (told_of self.new)) }
         ensures appends { self.new.plan.append_faults ≡ self.old.plan.append_faults }
         ensures listings { self.new.plan.made.list ≡ self.old.plan.made.list }
         ensures fails { (IsErr result) ↔ IsTrue (fails_next KeepCall.InstallLedger self.old.plan) }
-        ensures plan { self.new.plan ≡ after_call KeepCall.InstallLedger self.old.plan }
+        ensures plan { self.new.plan ≡ plan_after KeepCall.InstallLedger self.old.plan }
     {
         self.plan.call(KeepCall::InstallLedger)?;
         self.files.install_ledger(root, text);

@@ -1,7 +1,7 @@
 ghost use Rattle.std.specs.Prelude.{◌≡◌, ◌<◌, ◌≤◌, ◌+◌, true, not, length, filter, IsErr, IsTrue, ◌↔◌};
 ghost use Rattle.std.specs.List.{list_any};
 ghost use Rattle.quota_units.specs.Causes.{HasCause};
-ghost use Rattle.keeper.specs.Plan.{count_of, counted, names, is_append, fails_next, after_call, new_plan, faults_of, other_faults};
+ghost use Rattle.keeper.specs.Plan.{count_of, with_one_more, names, is_append, fails_next, plan_after, new_plan, faults_of_kind, other_faults};
 
 use quota_units::Failed;
 use std::marker::Model;
@@ -87,7 +87,7 @@ impl CallCounts {
 
     /// One more call of this kind.
     fn count(&mut self, kind: KeepCall)
-        ensures { self.new ≡ counted kind self.old }
+        ensures { self.new ≡ with_one_more kind self.old }
     {
         match kind {
             KeepCall::List => self.list = self.list.saturating_add(1),
@@ -149,12 +149,12 @@ impl Plan {
     /// Counts a call of this kind, which fails where it is one that is to.
     pub(crate) fn call(&mut self, kind: KeepCall) -> Result<(), Failed>
         ensures fails { IsErr result ↔ IsTrue (fails_next kind self.old) }
-        ensures after { self.new ≡ after_call kind self.old }
-        ensures made { self.new.made ≡ counted kind self.old.made }
-        ensures cause { HasCause (IsErr result) (faults_of kind self.old) (faults_of kind self.new) }
+        ensures after { self.new ≡ plan_after kind self.old }
+        ensures made { self.new.made ≡ with_one_more kind self.old.made }
+        ensures cause { HasCause (IsErr result) (faults_of_kind kind self.old) (faults_of_kind kind self.new) }
         ensures others { other_faults kind self.new ≡ other_faults kind self.old }
         ensures fewer { IsErr result → length self.new.fails < length self.old.fails }
-        ensures bounded { faults_of kind self.new + length self.new.fails ≤ faults_of kind self.old + length self.old.fails }
+        ensures bounded { faults_of_kind kind self.new + length self.new.fails ≤ faults_of_kind kind self.old + length self.old.fails }
     {
         self.made.count(kind);
         let nth = self.made.of(kind);

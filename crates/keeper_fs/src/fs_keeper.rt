@@ -205,7 +205,7 @@ impl<R: Files + AllocGlobal + Clone + Drop> Keeper for FsKeeper<R> {
 
     fn install_ledger(&mut self, root: u32, text: &[u8]) -> Result<(), Failed>
         requires root { root < 4 }
-        requires room { length text.now < 5120 }
+        requires short { length text.now < 5120 }
         ensures cause { HasCause (IsErr result) (faults_of self.old) (faults_of self.new) }
         ensures appends { append_faults_of self.new ≡ append_faults_of self.old }
         ensures listings { lists_of self.new ≡ lists_of self.old }

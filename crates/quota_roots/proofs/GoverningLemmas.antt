@@ -8,7 +8,7 @@ use Rattle.std.proofs.lemmas.List.Elements.{filter-append, All-filter}
 use Rattle.std.proofs.lemmas.List.FromFn.{map-range_with_len_more, length-range_with_len, get_or-range_with_len}
 use Rattle.std.proofs.lemmas.Option.{slice_get-get_or, slice_get_past}
 use Rattle.quota_roots.specs.declared.root.RootSpec.{RootSpec}
-use Rattle.quota_roots.specs.Governing.{governs, governs_at, governing, gains, gains_at, gaining, coming, comes_under}
+use Rattle.quota_roots.specs.Governing.{governs, governs_at, governing, gains, gains_at, gaining, gainers, gains_by}
 use Rattle.quota_roots.specs.RootSets.{has_root}
 use Rattle.quota_roots.proofs.MemberLemmas.{is_in-from_Contains, Contains-from_is_in, is_in-filter, range-is_in}
 
@@ -109,6 +109,6 @@ gaining_has roots from to root = elim (cases_Bool (gains_at roots root from to))
   ]
 ]
 
-pub coming_has : (roots : List RootSpec) (from : Option (List ℕ)) (to : List ℕ) (root : ℕ) → has_root (coming roots from to) root ≡ comes_under roots from to root
+pub coming_has : (roots : List RootSpec) (from : Option (List ℕ)) (to : List ℕ) (root : ℕ) → has_root (gainers roots from to) root ≡ gains_by roots from to root
 coming_has roots None to root = governing_has roots to root
 coming_has roots (Some from) to root = gaining_has roots from to root

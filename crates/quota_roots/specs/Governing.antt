@@ -36,11 +36,11 @@ abbrev pub gaining : List RootSpec → List ℕ → List ℕ → List ℕ
 gaining roots from to = filter (λ root. gains_at roots root from to) (range_with_len 0 (length roots))
 
 -- the root governs the mailbox that a message comes to, and not the one that it comes from, if there is one
-abbrev pub comes_under : List RootSpec → Option (List ℕ) → List ℕ → ℕ → Bool
-comes_under roots None to root = governs_at roots root to
-comes_under roots (Some from) to root = gains_at roots root from to
+abbrev pub gains_by : List RootSpec → Option (List ℕ) → List ℕ → ℕ → Bool
+gains_by roots None to root = governs_at roots root to
+gains_by roots (Some from) to root = gains_at roots root from to
 
 -- the numbers of those roots, in order
-abbrev pub coming : List RootSpec → Option (List ℕ) → List ℕ → List ℕ
-coming roots None to = governing roots to
-coming roots (Some from) to = gaining roots from to
+abbrev pub gainers : List RootSpec → Option (List ℕ) → List ℕ → List ℕ
+gainers roots None to = governing roots to
+gainers roots (Some from) to = gaining roots from to

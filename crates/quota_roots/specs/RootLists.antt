@@ -38,8 +38,8 @@ pub record AreRoots (roots : List RootSpec) : Type 0 where
   pub different : first_double roots ≡ None
 
 -- the place of the root of this name
-abbrev pub place_of : List RootSpec → List ℕ → Option ℕ
-place_of roots name = position (λ spec. bytes_eq spec.name name) roots
+abbrev pub root_named : List RootSpec → List ℕ → Option ℕ
+root_named roots name = position (λ spec. bytes_eq spec.name name) roots
 
 -- the name of the root of this number
 abbrev pub name_at : List RootSpec → ℕ → List ℕ

@@ -1,10 +1,10 @@
 ghost use Rattle.std.specs.Prelude.{◌≡◌, ◌≤◌, ◌<◌, ◌↔◌, ℕ, length, position, All, Contains, IfSome, IsTrue, IsFalse, IfOk, IsErrOf, vec_len, codes, bytes_eq};
 ghost use Rattle.std.specs.List.{list_all};
 ghost use Rattle.std.specs.Option.{option_map};
-ghost use Rattle.quota_roots.specs.Governing.{governs_at, governing, gaining, coming, comes_under};
+ghost use Rattle.quota_roots.specs.Governing.{governs_at, governing, gaining, gainers, gains_by};
 ghost use Rattle.quota_roots.specs.RootSets.{has_root};
 ghost use Rattle.quota_units.specs.Bytes.{is_printable};
-ghost use Rattle.quota_roots.specs.RootLists.{first_bad_name, first_double, has_name, is_prefix_at, is_root_at, is_root_name, name_at, place_of, AreRoots, IsBadName, IsDouble, IsTooMany};
+ghost use Rattle.quota_roots.specs.RootLists.{first_bad_name, first_double, has_name, is_prefix_at, is_root_at, is_root_name, name_at, root_named, AreRoots, IsBadName, IsDouble, IsTooMany};
 
 use super::mailbox::is_mailbox_name;
 use super::root::RootSpec;
@@ -78,8 +78,8 @@ fn has_name(specs: &[RootSpec], name: &[u8]) -> bool
     specs.iter().any(|spec| spec.name.as_slice() == name)
 }
 
-fn place_of(specs: &[RootSpec], name: &[u8]) -> Option<usize>
-    ensures { result ≡ place_of specs.now name.now }
+fn root_named(specs: &[RootSpec], name: &[u8]) -> Option<usize>
+    ensures { result ≡ root_named specs.now name.now }
 {
     specs.iter().position(|spec| spec.name.as_slice() == name)
 }
@@ -215,9 +215,9 @@ impl Roots {
 
     /// The number of the root of this name.
     pub fn find(&self, name: &[u8]) -> Option<u32>
-        ensures { result ≡ place_of self.now name.now }
+        ensures { result ≡ root_named self.now name.now }
     {
-        place_of(&self.specs, name).map(|at| at as u32)
+        root_named(&self.specs, name).map(|at| at as u32)
     }
 
     /// Whether the root of this number governs the mailbox of this name.
@@ -249,9 +249,9 @@ impl Roots {
     }
 
     /// The roots that a message comes under which goes from one mailbox to another; one that is delivered comes from none.
-    pub fn coming(&self, from: Option<&[u8]>, to: &[u8]) -> RootSet
-        ensures value { result ≡ coming self.now (option_map (λ m. m.now) from.entry) to.now }
-        ensures members { (root : ℕ) → has_root result root ≡ comes_under self.now (option_map (λ m. m.now) from.entry) to.now root }
+    pub fn gainers(&self, from: Option<&[u8]>, to: &[u8]) -> RootSet
+        ensures value { result ≡ gainers self.now (option_map (λ m. m.now) from.entry) to.now }
+        ensures members { (root : ℕ) → has_root result root ≡ gains_by self.now (option_map (λ m. m.now) from.entry) to.now root }
         ensures below { All (λ root. root < length self.now) result }
     {
         match from {

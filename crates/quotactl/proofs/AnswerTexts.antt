@@ -6,7 +6,7 @@ use Rattle.account_core.specs.declared.calls.RootRow.{RootRow}
 use Rattle.account_core.specs.declared.calls.Reply.{Reply}
 use Rattle.account_core.specs.declared.calls.Reply.TheVariants.{NoRoot, Quota, LimitsSet, Roots}
 use Rattle.account_core.specs.History.{Answer, replied, journal_full}
-use Rattle.quotactl.specs.Texts.{CommandKind, get_quota, get_quota_root, set_quota, tagged_line, line_end, root_line, quota_root_line, get_quota_text, get_quota_root_text, set_quota_text, unavailable_text, EndsTagged, AnswersHaveTexts, AnswersEndTagged, journal_full_text, answer_text}
+use Rattle.quotactl.specs.Texts.{CommandKind, get_quota, get_quota_root, set_quota, tagged_line, crlf, root_line, quota_root_line, get_quota_text, get_quota_root_text, set_quota_text, unavailable_text, EndsTagged, AnswersHaveTexts, AnswersEndTagged, journal_full_text, answer_text}
 
 module _ (roots : List RootSpec) (tag : List ℕ) where
   pub other_quota : (given : Reply) → given ≢ NoRoot → ((row : RootRow) → given ≢ Quota row) → get_quota_text roots tag (replied given) ≡ unavailable_text tag
@@ -69,7 +69,7 @@ not_nil [] b x e = cc
 not_nil (y ∷ a) b x e = cc
 
 line_some : (tag words text : List ℕ) (front : List ℕ) → text ≡ front ++ tagged_line tag words → text ≢ []
-line_some tag words text front e none = not_nil (front ++ tag) (words ++ line_end) 32 (append_assoc front tag (32 ∷ (words ++ line_end)) ∙ sym e ∙ none)
+line_some tag words text front e none = not_nil (front ++ tag) (words ++ crlf) 32 (append_assoc front tag (32 ∷ (words ++ crlf)) ∙ sym e ∙ none)
 
 pub answers_have_texts : AnswersHaveTexts
 answers_have_texts roots kind tag answer = let ends = answers_end_tagged roots kind tag answer in line_some tag ends.1 _ ends.0 ends.2

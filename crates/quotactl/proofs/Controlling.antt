@@ -24,7 +24,7 @@ use Rattle.quotactl.specs.Serving.{input_limit, NeverStore, Owns, IsSession}
 use Rattle.quotactl.specs.Words.{IsSessionForm}
 use Rattle.quota_units.specs.Limiting.{LimitNumbers}
 use Rattle.quotactl.specs.Plain.{plain_account, plain_origin}
-use Rattle.quotactl.specs.Control.{Runs, served, no_account, status_of, units_of_storage, fresh, fresh_owner, session_of}
+use Rattle.quotactl.specs.Control.{Runs, served, no_account, exit_status, units_of_storage, fresh, fresh_owner, session_of}
 use Rattle.quotactl.proofs.Lines.{imap_filled}
 
 -- a call where there is room, and one where there is none
@@ -93,15 +93,15 @@ form_number words n m a b =
 -- the status and all that is written, where nothing failed and there was memory
 pub control_output : (words : List (List ℕ)) (left left' written written' : Option (List ℕ)) (units m : ℕ) (status : ℕ) (R W : Type 0) → IsSessionForm words units → IsSessionForm words m
     → Runs left left' written written' units status → (status ≡ 4 → R) → (status ≡ 5 → W)
-    → IfSome left (λ input. (R → ⊥) → (W → ⊥) → status ≢ 6 → (status ≡ status_of (session_of m input).end) × Appends written written' (greeting ++ (session_of m input).text))
+    → IfSome left (λ input. (R → ⊥) → (W → ⊥) → status ≢ 6 → (status ≡ exit_status (session_of m input).end) × Appends written written' (greeting ++ (session_of m input).text))
 control_output words None left' written written' units m status R W form own runs read write = tt
 control_output words (Some input) left' written written' units m status R W form own (no_account source sink is) read write = λ unread unwritten some. absurd (some is)
 control_output words (Some input) left' written written' units m status R W form own (served account' end session is) read write = λ unread unwritten some.
-    let quiet : IsQuiet end = ((λ e. unread (read (is ∙ ap status_of e))), (λ e. unwritten (write (is ∙ ap status_of e)))) in
-    let memory : end ≢ NoMemory = λ e. some (is ∙ ap status_of e) in
+    let quiet : IsQuiet end = ((λ e. unread (read (is ∙ ap exit_status e))), (λ e. unwritten (write (is ∙ ap exit_status e)))) in
+    let memory : end ≢ NoMemory = λ e. some (is ∙ ap exit_status e) in
     let same = form_number words units m form own in
     let out = output_is (Some input) left' written written' m account' end (subst (λ n. IsSession (Some input) left' written written' (fresh n) account' end) same session) quiet memory in
-    (is ∙ ap status_of out.0, out.1)
+    (is ∙ ap exit_status out.0, out.1)
 
 -- an account that was just opened
 pub is_fresh : (account : Owned) (n : ℕ) (limits : LimitNumbers) → account.origin ≡ plain_origin limits → account.history ≡ [] → limits ≡ units_of_storage n → account ≡ fresh n

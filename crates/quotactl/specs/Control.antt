@@ -19,14 +19,14 @@ use Rattle.quotactl.specs.declared.form.Form.TheVariants.{Session, Check}
 use Rattle.quotactl.specs.Words.{IsForm, IsNoForm}
 use Rattle.quotactl.specs.Checking.{ChecksLedger}
 
-abbrev pub status_of : SessionEnd → ℕ
-status_of Closed = 0
-status_of Stopped = 0
-status_of (Truncated at) = 3
-status_of InputLimit = 11
-status_of ReadFault = 4
-status_of WriteFault = 5
-status_of NoMemory = 6
+abbrev pub exit_status : SessionEnd → ℕ
+exit_status Closed = 0
+exit_status Stopped = 0
+exit_status (Truncated at) = 3
+exit_status InputLimit = 11
+exit_status ReadFault = 4
+exit_status WriteFault = 5
+exit_status NoMemory = 6
 
 abbrev pub usage_line : List ℕ
 usage_line = codes "usage: quotactl session N | imap [ACCOUNT] | jmap | policy | recalc ACCOUNT | check | workload N\n"
@@ -48,7 +48,7 @@ session_of n input = transcript imap (fresh_owner n) input_limit [] input
 -- what comes of an account with so many units, and of a session of it
 pub data Runs (left left' written written' : Option (List ℕ)) (n status : ℕ) : Type 0 where
   -- the session was served to its end
-  served : (account' : Owned) (end : SessionEnd) → IsSession left left' written written' (fresh n) account' end → status ≡ status_of end → Runs left left' written written' n status
+  served : (account' : Owned) (end : SessionEnd) → IsSession left left' written written' (fresh n) account' end → status ≡ exit_status end → Runs left left' written written' n status
   -- there was no memory for the account
   no_account : Keeps left left' → Keeps written written' → status ≡ 6 → Runs left left' written written' n status
 

@@ -16,7 +16,7 @@ abbrev pub owned_of : State → Owned
 owned_of s = record { origin = s.origin; history = s.history }
 
 -- the account has the one root of the empty name, and its store told what it was opened with
-pub record IsHeld (owned : Owned) : Type 0 where
+pub record IsPlainAccount (owned : Owned) : Type 0 where
   pub roots : owned.origin.roots ≡ plain_roots
   pub opening : Account
   pub told : owned.origin.account ≡ Some opening

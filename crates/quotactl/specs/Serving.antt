@@ -7,7 +7,7 @@ use Rattle.wire_io.specs.declared.ends.SessionEnd.TheVariants.{Closed, Truncated
 use Rattle.wire_io.specs.declared.ends.FeedEnd.{FeedEnd}
 use Rattle.wire_io.specs.declared.ends.FeedEnd.TheVariants.{Fault, Ended, Limit, NoMemory as FeedNoMemory}
 use Rattle.wire_io.specs.Feeding.{Hands}
-use Rattle.wire_io.specs.Work.{Does, Begins}
+use Rattle.wire_io.specs.Work.{Does, AsksFirst}
 use Rattle.wire_io.specs.Protocol.{Spells}
 use Rattle.wire_io.specs.Session.{Exchange, IsExchange, Ends, IsWorked, Session}
 use Rattle.imap_grammar.specs.declared.command.Command.{Command}
@@ -57,7 +57,7 @@ pub record Answered (account account' : Owned) (bytes text : List ℕ) (after : 
 pub record Abandoned (account account' : Owned) (bytes : List ℕ) : Type 0 where
   pub log : List (Call × Answer)
   pub owned : Owns account account' log
-  pub begun : (log ≡ []) ⊎ ((request : Request) × Spells imap tt bytes request × Begins (work request) log)
+  pub begun : (log ≡ []) ⊎ ((request : Request) × Spells imap tt bytes request × AsksFirst (work request) log)
 
 -- the account was asked, and this text answers the command of this kind and tag
 abbrev pub AnswersCall : Owned → Owned → Call → CommandKind → (tag text : List ℕ) → Type 0
@@ -75,7 +75,7 @@ AnswersCommand account account' tag command text after = (log : List (Call × An
 
 -- at most the first calls for a command with this tag were made
 abbrev pub LeavesCommand : Owned → Owned → List ℕ → Command → Type 0
-LeavesCommand account account' tag command = (log : List (Call × Answer)) × Owns account account' log × Begins (work_of tag command) log
+LeavesCommand account account' tag command = (log : List (Call × Answer)) × Owns account account' log × AsksFirst (work_of tag command) log
 
 -- what came of the bytes of a request: the text that answers them, or the session's end with nothing written for them
 abbrev pub Comes : Type 0 → (at : ℕ) → (given waiting : List ℕ) → List (Call × Answer) → (text : List ℕ) → Result After SessionEnd → Type 0

@@ -12,12 +12,12 @@ use Rattle.account_core.specs.History.{Answer, replied, journal_full}
 use Rattle.quotactl.specs.declared.texts.Kind.{Kind}
 use Rattle.quotactl.specs.declared.texts.Kind.TheVariants.{GetQuota, GetQuotaRoot, SetQuota}
 
-abbrev pub line_end : List ℕ
-line_end = codes "\r\n"
+abbrev pub crlf : List ℕ
+crlf = codes "\r\n"
 
 -- words that answer the command with this tag
 abbrev pub tagged_line : List ℕ → List ℕ → List ℕ
-tagged_line tag words = tag ++ (codes " " ++ (words ++ line_end))
+tagged_line tag words = tag ++ (codes " " ++ (words ++ crlf))
 
 -- a resource's name, usage and limit
 abbrev pub resource : List ℕ → ℕ → ℕ → List ℕ
@@ -40,7 +40,7 @@ resources octets count (Some most) (Some limit) = storage octets most ++ (codes 
 -- the row of the root of this name
 abbrev pub quota_line : List ℕ → RootRow → List ℕ
 quota_line name row =
-    codes "* QUOTA " ++ (printed name ++ (codes " (" ++ (resources row.octets row.count row.limits.octets row.limits.count ++ (codes ")" ++ line_end))))
+    codes "* QUOTA " ++ (printed name ++ (codes " (" ++ (resources row.octets row.count row.limits.octets row.limits.count ++ (codes ")" ++ crlf))))
 
 -- the row of a root of these
 abbrev pub root_line : List RootSpec → RootRow → List ℕ
@@ -52,7 +52,7 @@ root_after_space roots row = codes " " ++ printed (name_at roots row.root)
 
 -- the mailbox and the names of the roots that govern it: RFC 9208, on the QUOTAROOT response
 abbrev pub quota_root_line : List RootSpec → List ℕ → List RootRow → List ℕ
-quota_root_line roots mailbox rows = codes "* QUOTAROOT " ++ (printed mailbox ++ (flat_map (root_after_space roots) rows ++ line_end))
+quota_root_line roots mailbox rows = codes "* QUOTAROOT " ++ (printed mailbox ++ (flat_map (root_after_space roots) rows ++ crlf))
 
 -- a name that no root has
 abbrev pub no_root_text : List ℕ → List ℕ

@@ -6,7 +6,7 @@ ghost use Rattle.quota_units.specs.Causes.{Rose};
 ghost use Rattle.quotactl.specs.Texts.{greeting};
 ghost use Rattle.quotactl.specs.Words.{IsForm, IsNoForm};
 ghost use Rattle.quotactl.specs.Checking.{Tells, max_checked};
-ghost use Rattle.quotactl.specs.Control.{Runs, Controls, status_of, usage_line, session_of};
+ghost use Rattle.quotactl.specs.Control.{Runs, Controls, exit_status, usage_line, session_of};
 
 use crate::check::check;
 use crate::form::{Form, form_of};
@@ -25,7 +25,7 @@ const NO_MEMORY: u8 = 6;
 
 /// The exit status of the program after a session.
 fn status(end: SessionEnd) -> u8
-    ensures value { result ≡ status_of end }
+    ensures value { result ≡ exit_status end }
     ensures read { (result ≡ 4) ↔ (end ≡ SessionEnd.ReadFault) }
     ensures write { (result ≡ 5) ↔ (end ≡ SessionEnd.WriteFault) }
 {
@@ -81,7 +81,7 @@ pub fn control<S: Source, O: Sink>(
     // Where nothing failed, words and input decide the status and all that is written, but for want of memory.
     ensures output { (n : ℕ) → IsForm (map string_bytes words.now) (Form.Session n) → IfSome (S.left source.old) (λ input.
         (Rose (S.faults source.old) (S.faults source.new) → ⊥) → (Rose (O.faults sink.old) (O.faults sink.new) → ⊥) → result ≢ 6
-        → (result ≡ status_of (session_of n input).end) × Appends (O.written sink.old) (O.written sink.new) (greeting ++ (session_of n input).text)) }
+        → (result ≡ exit_status (session_of n input).end) × Appends (O.written sink.old) (O.written sink.new) (greeting ++ (session_of n input).text)) }
     ensures checked { IsForm (map string_bytes words.now) Form.Check → IfSome (S.left source.old) (λ input.
         (Rose (S.faults source.old) (S.faults source.new) → ⊥) → (Rose (O.faults sink.old) (O.faults sink.new) → ⊥) → result ≢ 6
         → (text : List ℕ) × Tells (take max_checked input) text result × Appends (O.written sink.old) (O.written sink.new) text) }

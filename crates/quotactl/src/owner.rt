@@ -2,7 +2,7 @@
 ghost use Rattle.std.specs.Prelude.{◌≡◌, ◌≢◌, [], IfOk};
 ghost use Rattle.quota_roots.specs.RootLists.{name_at};
 ghost use Rattle.account_core.specs.Logs.{Serves};
-ghost use Rattle.quotactl.specs.Held.{IsAsked, IsHeld};
+ghost use Rattle.quotactl.specs.Held.{IsAsked, IsPlainAccount};
 ghost use Rattle.quotactl.specs.Imap.{session_roots};
 ghost use Rattle.quotactl.specs.Plain.{plain_origin};
 
@@ -22,13 +22,13 @@ pub struct Owner {
 }
 
 impl Model for Owner {
-    ghost use Rattle.quotactl.specs.Held.{Owned, owned_of, IsHeld};
+    ghost use Rattle.quotactl.specs.Held.{Owned, owned_of, IsPlainAccount};
 
     ghost Value = { Owned };
 
     ghost view = { λ owner. owned_of owner.state };
 
-    ghost invariant = { λ owner. IsHeld (owned_of owner.state) };
+    ghost invariant = { λ owner. IsPlainAccount (owned_of owner.state) };
 }
 
 impl Owner {
@@ -54,8 +54,8 @@ impl Owner {
     }
 
     /// The account has the one root of the empty name, and what it was opened with is told.
-    pub fn is_held(&self)
-        ensures { IsHeld self.now }
+    pub fn show_opening(&self)
+        ensures { IsPlainAccount self.now }
     {
         let _ = &self.state;
     }
@@ -74,7 +74,7 @@ impl Owner {
     /// `JournalFull` where the history holds 65536 entries, and `NoMemory`; both leave the history as it was.
     pub fn serve(&mut self, alloc: Global, call: Call) -> Result<Reply, StepError>
         requires { IsAsked call }
-        ensures held { IsHeld self.old }
+        ensures plain { IsPlainAccount self.old }
         ensures origin { self.new.origin ≡ self.old.origin }
         ensures serves { Serves self.old.origin 0 self.old.history call result self.new.history }
         ensures no_store { result ≢ Err StepError.Store }

@@ -1,7 +1,7 @@
 // One session of IMAP for the owner of one account.
 ghost use Rattle.std.specs.Prelude.{◌≡◌, ◌≢◌, ◌≤◌, ◌⊎◌, ◌++◌, ℕ, [], ◌∷◌, length, ◌<◌, OnOk, OnErr, IfOk, IfSome};
 ghost use Rattle.wire_io.specs.Lines.{IsLine};
-ghost use Rattle.quotactl.specs.Held.{IsAsked, IsHeld};
+ghost use Rattle.quotactl.specs.Held.{IsAsked, IsPlainAccount};
 ghost use Rattle.quotactl.specs.Imap.{max_text, imap};
 ghost use Rattle.quota_units.specs.Causes.{Rose};
 ghost use Rattle.wire_io.specs.Feeds.{source_of, source_name, waiting_of, taken_of, handed_of, limit_of};
@@ -338,7 +338,7 @@ pub fn run_session<S: Source, O: Sink>(
 ) -> SessionEnd
     // What is written answers what is read, each reply being the account machine's at its call's place in the one history.
     ensures session { IsSession (S.left source.old) (S.left source.new) (O.written sink.old) (O.written sink.new) account.old account.new result }
-    ensures held { IsHeld account.old }
+    ensures plain { IsPlainAccount account.old }
 
     // A fault is told where it came, and only there.
     ensures read_fault { result ≡ SessionEnd.ReadFault → Rose (S.faults source.old) (S.faults source.new) }
@@ -350,7 +350,7 @@ pub fn run_session<S: Source, O: Sink>(
     ensures decided { IfSome (S.left source.old) (λ input. EndsAsDecided imap input_limit input
         (Rose (S.faults source.old) (S.faults source.new) ⊎ Rose (O.faults sink.old) (O.faults sink.new)) result) }
 {
-    account.is_held();
+    account.show_opening();
     if let Err(Failed) = send(sink, GREETING) {
         return SessionEnd::WriteFault;
     }

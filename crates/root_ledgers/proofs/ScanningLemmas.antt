@@ -14,7 +14,7 @@ use Rattle.keeper.proofs.Changing.{changes_then, changes_weaken}
 use Rattle.quota_units.specs.Sums.{AreSmall, cut, cut_totals}
 use Rattle.quota_units.proofs.SumLemmas.{same_totals}
 use Rattle.root_ledgers.specs.Scans.{scan, sizes_of}
-use Rattle.root_ledgers.specs.Scanning.{AreScans, IsFresh, IsScan, ScansList, counted, empty_scan, scan_at}
+use Rattle.root_ledgers.specs.Scanning.{AreScans, IsFresh, IsScan, ScansList, with_files, empty_scan, scan_at}
 use Rattle.root_ledgers.proofs.ScanLemmas.{sum_more}
 
 -- what is known of each item, and of one more behind them
@@ -64,7 +64,7 @@ module _ (roots : List RootSpec) (root : ℕ) (rows : List Row) (mailboxes : Lis
       fresh ∙ same_totals (ap cut (omega arith)) (ap cut (omega arith)) ∙ sym (scan_by false is)
 
   -- the mailbox was listed
-  pub fresh_listed : (found found' : Option Totals) → found' ≡ counted (governs_at roots root here) (cut_totals (sizes_of (listed here rows)) (length (listed here rows))) found
+  pub fresh_listed : (found found' : Option Totals) → found' ≡ with_files (governs_at roots root here) (cut_totals (sizes_of (listed here rows)) (length (listed here rows))) found
       → IsFresh roots root (take n mailboxes) found rows → IsFresh roots root (take (n + 1) mailboxes) found' rows
   fresh_listed None found' is fresh = rw is tt
   fresh_listed (Some totals) found' is fresh = rw is (counted_by (governs_at roots root here) refl totals fresh)
@@ -88,18 +88,18 @@ ListsSome mailbox files told told' = (files ≡ listed mailbox told.files.rows) 
 
 module _ (roots : List RootSpec) (mailboxes : List (List ℕ)) (n : ℕ) (inside : n < length mailboxes) (box : List ℕ) (is : box ≡ get_or mailboxes n []) where
   one_listed : (scans scans' : List (Option Totals)) (count : ℕ) → length scans' ≡ count → (files : List FileRow)
-      → ((root : ℕ) → root < count → scan_at scans' root ≡ counted (governs_at roots root box) (cut_totals (sizes_of files) (length files)) (scan_at scans root))
+      → ((root : ℕ) → root < count → scan_at scans' root ≡ with_files (governs_at roots root box) (cut_totals (sizes_of files) (length files)) (scan_at scans root))
       → (rows : List Row) → files ≡ listed box rows → ((root : ℕ) → IsFresh roots root (take n mailboxes) (scan_at scans root) rows) → (root : ℕ) → IsFresh roots root (take (n + 1) mailboxes) (scan_at scans' root) rows
   one_listed scans scans' count long files counts rows found fresh root = elim (cases_lt root count) [
     | inl below ↦
         fresh_listed roots root rows mailboxes n inside (scan_at scans root) (scan_at scans' root)
-        (counts root below ∙ ap (λ fs. counted (governs_at roots root box) (cut_totals (sizes_of fs) (length fs)) (scan_at scans root)) found
-        ∙ ap (λ m. counted (governs_at roots root m) (cut_totals (sizes_of (listed m rows)) (length (listed m rows))) (scan_at scans root)) is) (fresh root)
+        (counts root below ∙ ap (λ fs. with_files (governs_at roots root box) (cut_totals (sizes_of fs) (length fs)) (scan_at scans root)) found
+        ∙ ap (λ m. with_files (governs_at roots root m) (cut_totals (sizes_of (listed m rows)) (length (listed m rows))) (scan_at scans root)) is) (fresh root)
     | inr past ↦ subst (λ x. IsFresh roots root (take (n + 1) mailboxes) x rows) (sym (get_or_past scans' root None (omega (arith, long, past)))) tt
   ]
 
   pub files_listed : (scans scans' : List (Option Totals)) (count : ℕ) → length scans' ≡ count → (files : List FileRow)
-      → ((root : ℕ) → root < count → scan_at scans' root ≡ counted (governs_at roots root box) (cut_totals (sizes_of files) (length files)) (scan_at scans root))
+      → ((root : ℕ) → root < count → scan_at scans' root ≡ with_files (governs_at roots root box) (cut_totals (sizes_of files) (length files)) (scan_at scans root))
       → (t u v : Option Told) → Changes (ScansList roots (take n mailboxes) scans) t u → Changes (ListsSome box files) u v → Changes (ScansList roots (take (n + 1) mailboxes) scans') t v
   files_listed scans scans' count long files counts =
       changes_then (ScansList roots (take n mailboxes) scans) (ListsSome box files) (ScansList roots (take (n + 1) mailboxes) scans')

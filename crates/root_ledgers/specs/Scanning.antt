@@ -29,9 +29,9 @@ empty_scan false = None
 empty_scan true = Some (record { octets = 0; count = 0 })
 
 -- what was counted of a root, with the files of one more mailbox, where the root governs it
-abbrev pub counted : Bool → Totals → Option Totals → Option Totals
-counted governs files None = None
-counted governs files (Some totals) = Some (if governs then cut_totals (totals.octets + files.octets) (totals.count + files.count) else totals)
+abbrev pub with_files : Bool → Totals → Option Totals → Option Totals
+with_files governs files None = None
+with_files governs files (Some totals) = Some (if governs then cut_totals (totals.octets + files.octets) (totals.count + files.count) else totals)
 
 -- the scan of a root, where it was made
 abbrev pub scan_at : List (Option Totals) → ℕ → Option Totals

@@ -57,7 +57,7 @@ impl RootLedgers {
     }
 
     /// There is a book for each limit, for four roots at most, and no total is large.
-    pub fn are_kept(&self)
+    pub fn show_kept(&self)
         ensures { AreKept self.now }
     {
         let _ = &self.limits;
@@ -139,7 +139,7 @@ impl RootLedgers {
         ensures appends { K.append_faults keeper.new ≡ K.append_faults keeper.old }
     {
         // There are at most four roots.
-        self.are_kept();
+        self.show_kept();
         let book = install_folded(keeper, root, &limits, totals)?;
         self.limits[root as usize] = limits;
         self.books[root as usize] = book;

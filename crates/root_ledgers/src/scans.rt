@@ -6,7 +6,7 @@ ghost use Rattle.quota_roots.specs.Governing.{governs_at};
 ghost use Rattle.quota_roots.specs.RootSets.{has_root};
 ghost use Rattle.keeper.specs.Calls.{Changes, Due};
 ghost use Rattle.root_ledgers.specs.Scans.{size_of_file, sizes_of};
-ghost use Rattle.root_ledgers.specs.Scanning.{AreScans, IsScan, ScansEach, SomeScanned, counted, empty_scan, is_wanted, scan_at};
+ghost use Rattle.root_ledgers.specs.Scanning.{AreScans, IsScan, ScansEach, SomeScanned, with_files, empty_scan, is_wanted, scan_at};
 ghost use Rattle.root_ledgers.specs.Settling.{StaysInDoubt, book_at};
 
 use crate::book::{Book, Standing};
@@ -96,7 +96,7 @@ fn is_counted(scans: &[Option<Totals>], roots: &Roots, mailbox: &[u8]) -> bool
 fn with_files(found: Option<Totals>, governs: bool, files: Totals) -> Option<Totals>
     requires found { IfSome found AreSmall }
     requires files { AreSmall files }
-    ensures value { result ≡ counted governs files found }
+    ensures value { result ≡ with_files governs files found }
     ensures small { IfSome result AreSmall }
     ensures same { is_some result ≡ is_some found }
 {
@@ -112,7 +112,7 @@ fn count_files(scans: &mut Vec<Option<Totals>>, roots: &Roots, mailbox: &[u8], f
     requires scans { (root : ℕ) → IfSome (scan_at scans.old.items root) AreSmall }
     requires files { AreSmall files }
     ensures count { length scans.new.items ≡ length scans.old.items }
-    ensures counted { (root : ℕ) → root < length roots.now → scan_at scans.new.items root ≡ counted (governs_at roots.now root mailbox.now) files (scan_at scans.old.items root) }
+    ensures counted { (root : ℕ) → root < length roots.now → scan_at scans.new.items root ≡ with_files (governs_at roots.now root mailbox.now) files (scan_at scans.old.items root) }
     ensures small { (root : ℕ) → IfSome (scan_at scans.new.items root) AreSmall }
     ensures same { (root : ℕ) → is_some (scan_at scans.new.items root) ≡ is_some (scan_at scans.old.items root) }
 {

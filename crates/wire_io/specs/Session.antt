@@ -4,7 +4,7 @@ use Rattle.wire_io.specs.declared.ends.After.{After}
 use Rattle.wire_io.specs.declared.ends.After.TheVariants.{Open, Closing, Stopping}
 use Rattle.wire_io.specs.declared.ends.SessionEnd.{SessionEnd}
 use Rattle.wire_io.specs.declared.ends.SessionEnd.TheVariants.{Closed, Stopped, Truncated, InputLimit, ReadFault, WriteFault, NoMemory}
-use Rattle.wire_io.specs.Work.{Does, Begins, AlwaysEnds}
+use Rattle.wire_io.specs.Work.{Does, AsksFirst, AlwaysEnds}
 use Rattle.wire_io.specs.Protocol.{Protocol, Spelling, spelled_bytes, Spells, IsRest}
 
 -- One request of a session: its bytes, what they spell, its calls with their answers, and all that is written for it.
@@ -45,8 +45,8 @@ module _ {State Request Call Answer : Type 0} (p : Protocol State Request Call A
   Exchanges state (x ∷ xs) last = IsExchange state x Open × Exchanges (p.next state x.request) xs last
 
   -- what came of a request: less than it, or all of it
-  abbrev pub IsComing : State → List ℕ → Type 0
-  IsComing state come = IsRest p state come ⊎ ((request : Request) × Spells p state come request)
+  abbrev pub IsPartOrAll : State → List ℕ → Type 0
+  IsPartOrAll state come = IsRest p state come ⊎ ((request : Request) × Spells p state come request)
 
   -- the session waits for more of a request, with its prompts written
   pub record Waits (state : State) (rest : List ℕ) (log : List (Call × Answer)) (text : List ℕ) : Type 0 where
@@ -77,7 +77,7 @@ module _ {State Request Call Answer : Type 0} (p : Protocol State Request Call A
   pub record CutInPrompts (state : State) (rest : List ℕ) (log : List (Call × Answer)) (text : List ℕ) : Type 0 where
     pub come : List ℕ
     pub unread : List ℕ
-    pub coming : IsComing state come
+    pub part_or_all : IsPartOrAll state come
     pub rest_is : rest ≡ come ++ unread
     pub no_calls : log ≡ []
     pub front : IsFront text (p.prompts state come)
@@ -86,10 +86,10 @@ module _ {State Request Call Answer : Type 0} (p : Protocol State Request Call A
   pub record GivesUp (state : State) (rest : List ℕ) (log : List (Call × Answer)) (text : List ℕ) : Type 0 where
     pub come : List ℕ
     pub unread : List ℕ
-    pub coming : IsComing state come
+    pub part_or_all : IsPartOrAll state come
     pub rest_is : rest ≡ come ++ unread
     pub prompted : text ≡ p.prompts state come
-    pub begun : (log ≡ []) ⊎ ((request : Request) × Spells p state come request × Begins (p.work state request) log)
+    pub begun : (log ≡ []) ⊎ ((request : Request) × Spells p state come request × AsksFirst (p.work state request) log)
 
   -- How a session ends after the requests that it outlived: by what came after them, at this place, by the calls and the text.
   -- `nothing_left` says that the input has no more bytes.

@@ -16,10 +16,10 @@ module _ {Call Answer : Type 0} where
   Does (ask call next) (entry ∷ log) written word = (entry.0 ≡ call) × Does (next entry.1) log written word
 
   -- they are the first calls that it asks for
-  abbrev pub Begins : Work Call Answer → List (Call × Answer) → Type 0
-  Begins work [] = Unit {0}
-  Begins (say text after) (entry ∷ log) = ⊥
-  Begins (ask call next) (entry ∷ log) = (entry.0 ≡ call) × Begins (next entry.1) log
+  abbrev pub AsksFirst : Work Call Answer → List (Call × Answer) → Type 0
+  AsksFirst work [] = Unit {0}
+  AsksFirst (say text after) (entry ∷ log) = ⊥
+  AsksFirst (ask call next) (entry ∷ log) = (entry.0 ≡ call) × AsksFirst (next entry.1) log
 
   -- whatever its calls are answered, the session does this after its text
   abbrev pub AlwaysEnds : Work Call Answer → After → Type 0

@@ -10,12 +10,12 @@ pub loop-file-preserved : goal.loop-file-preserved
 loop-file-preserved c =
     let files = c.args.files.now in (
       notes_more files c.loop-file.file-index c.file-item.result c.loop-file-test.true c.file-item.is c.base_in.result.now c.base_in.ensures
-          c.loop-file.notes c.note.new.notes c.in_ok-again.again c.in_ok-again.ensures.again c.in_ok-again.ensures.notes c.loop-file.invariant.0,
+          c.loop-file.notes c.count_base.new.notes c.in_ok-again.again c.in_ok-again.ensures.again c.in_ok-again.ensures.notes c.loop-file.invariant.0,
       elim c.if-repeats.branch [
         | then-repeats w ↦ λ none. absurd (false≢true (sym none ∙ w.repeats-is ∙ w.if-repeats.true))
         | else-repeats w ↦ λ none.
             apart_more files c.loop-file.file-index c.file-item.result c.loop-file-test.true c.file-item.is c.base_in.result.now c.base_in.ensures
-            c.loop-file.notes c.note.new.notes c.in_ok-again.again c.in_ok-again.ensures.again c.in_ok-again.ensures.notes c.loop-file.invariant.0
+            c.loop-file.notes c.count_base.new.notes c.in_ok-again.again c.in_ok-again.ensures.again c.in_ok-again.ensures.notes c.loop-file.invariant.0
             (sym w.repeats-is ∙ none) (c.loop-file.invariant.1 w.if-repeats.false)
       ],
     )

@@ -5,4 +5,4 @@ use Rattle.accounts_file.proofs.accounts.without_inbox.Goals as goal
 pub returns-in-None : goal.returns-in-None
 returns-in-None c =
     without_nowhere (codes "INBOX") c.args.names.items
-    (sym c.in-None.is ∙ c.place_of_inbox.ensures.value ∙ ap (position (λ (a : List ℕ). bytes_eq a (codes "INBOX"))) c.deref.ensures.value)
+    (sym c.in-None.is ∙ c.index_of_inbox.ensures.value ∙ ap (position (λ (a : List ℕ). bytes_eq a (codes "INBOX"))) c.deref.ensures.value)

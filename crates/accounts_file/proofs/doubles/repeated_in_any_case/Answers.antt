@@ -12,7 +12,7 @@ loop-at-preserved c =
     let here : text ≡ str_to_ascii_lowercase (get_or names at name) =
     c.as_slice.ensures.value ∙ ap (λ lower. lower.items) c.index.ensures
     ∙ lower_at names c.in_ok-lower.lower.items at name c.index.result.now c.in_ok-lower.ensures.texts c.in_ok-lower.ensures.count c.loop-at-test.true in
-    let new = sym (noted_before names at name text c.loop-at.notes here c.loop-at.invariant.1) ∙ sym c.in_ok-note.ensures.again ∙ c.if-branch.false in (
+    let new = sym (noted_before names at name text c.loop-at.notes here c.loop-at.invariant.1) ∙ sym c.in_ok-insert_text.ensures.again ∙ c.if-branch.false in (
       repeat_on str_eq_ignore_ascii_case names at name c.loop-at-test.true c.loop-at.invariant.0 new,
-      noted_more names at name text c.loop-at.notes c.note.new.notes c.loop-at-test.true here c.in_ok-note.ensures.notes c.loop-at.invariant.1,
+      noted_more names at name text c.loop-at.notes c.insert_text.new.notes c.loop-at-test.true here c.in_ok-insert_text.ensures.notes c.loop-at.invariant.1,
     )

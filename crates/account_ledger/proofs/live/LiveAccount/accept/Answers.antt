@@ -24,7 +24,7 @@ put-requires g c =
     let l = the_view (param 0 g.row.K) g.K.Keeper s in
     let m = c.args.mailbox.now in
     let there = subst (λ (v : Live). list_any (λ other. bytes_eq other m) v.mailboxes ≡ true) (sym c.self.view_is) c.requires.there in
-    let room = subst (λ (v : Live). v.deliveries < 2 ^ 63) (sym c.self.view_is) c.requires.room in
+    let room = subst (λ (v : Live). v.deliveries < 2 ^ 63) (sym c.self.view_is) c.requires.countable in
     let named = subst (λ (v : Live). IsDeliveryName v.epoch (v.deliveries + 1) c.args.octets c.args.flags c.args.name.now) (sym c.self.view_is) c.requires.name in
     of_shown l (λ t. has_row m c.args.name.now t.files.rows ≡ false)
     (λ account shows. row_free l account shows m c.args.octets c.args.flags there c.args.name.now (omega (arith, room)) (ap (λ (x : FileMessage). x.base) (named.reads 0)))
@@ -50,7 +50,7 @@ returns-clause-acts g c =
     rw (← c.self.view_is, c.write_lines.ensures.limits)
     (acts_lined call l None (Some message) c.args.octets number (s.counts.generation + 1) (g.K.Keeper.told n) (g.K.Keeper.told w.keeper) (g.K.Keeper.faults n) (g.K.Keeper.faults w.keeper) (g.K.Keeper.append_faults n) (g.K.Keeper.append_faults w.keeper)
     (g.K.Keeper.lists w.keeper) w.self.books (λ account shows. moves_delivered l account shows m c.args.octets c.args.flags there c.requires.most (fits account shows)) shifted c.write_lines.ensures.books c.write_lines.ensures.files
-    (c.are_kept.ensures.each ∙ c.self.invariant.0) (c.in_default.ensures.cause.kept (search rules)) c.put.ensures.appends c.write_lines.ensures.faults c.write_lines.ensures.appends
+    (c.show_kept.ensures.each ∙ c.self.invariant.0) (c.in_default.ensures.cause.kept (search rules)) c.put.ensures.appends c.write_lines.ensures.faults c.write_lines.ensures.appends
     c.args.bytes.now (Delivered number) (λ account shows. delivered_replied l account shows m c.args.octets c.args.flags there (fits account shows)) (record { kind = refl; names = tt }) refl (λ wrote. wrote)
     rows (omega arith) (omega arith)
     (spends_not _ ⊥ _ _ _ _ (λ f. absurd f) (spends_others _ _ _ _ _ _ _ c.in_default.ensures.due c.put.ensures.appends)) c.write_lines.ensures.due)

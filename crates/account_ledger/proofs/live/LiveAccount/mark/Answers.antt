@@ -21,7 +21,7 @@ returns-then-not-has_mailbox g c =
     let l = c.args.self.now in
     let m = c.args.mailbox.now in
     let none : list_any (λ mailbox. bytes_eq mailbox m) l.mailboxes ≡ false = search rules in
-    steps_refused (Mark m c.args.base.now c.args.flags) [] NoMailbox l c.is_whole.ensures refl
+    steps_refused (Mark m c.args.base.now c.args.flags) [] NoMailbox l c.show_whole.ensures refl
     (λ account shows. nowhere account m c.args.base.now Marked (nowhere_in l account shows m none)) (record { kind = refl; names = tt })
     (λ account shows. ap (marked_after account m c.args.base.now c.args.flags) (sym (nowhere account m c.args.base.now Marked (nowhere_in l account shows m none)))) refl (λ rows. refl) tt
 

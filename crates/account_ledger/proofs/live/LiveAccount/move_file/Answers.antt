@@ -87,7 +87,7 @@ returns-clause-acts g c =
     (g.K.Keeper.lists w.keeper) w.self.books
     (λ account shows. moves_moved l account shows m base to source target file (known l account Found shows found) (known l account Free shows free) c.requires.apart (fits account shows)) shifted
     (rw octets at c.write_lines.ensures.books) (rw octets at c.write_lines.ensures.files)
-    (c.are_kept.ensures.each ∙ c.self.invariant.0) (c.in_default.ensures.cause.kept (search rules)) c.rename_file.ensures.appends (rw octets at c.write_lines.ensures.faults) (rw octets at c.write_lines.ensures.appends)
+    (c.show_kept.ensures.each ∙ c.self.invariant.0) (c.in_default.ensures.cause.kept (search rules)) c.rename_file.ensures.appends (rw octets at c.write_lines.ensures.faults) (rw octets at c.write_lines.ensures.appends)
     [] Moved (λ account shows. reply_moved l.roots account m base to message (may_move account shows) (fits account shows)) (record { kind = refl; names = tt }) refl
     (λ wrote. rw c.requires.apart (record { octets = message.octets; named = λ account shows. has_named l account shows m base file source (known l account Found shows found); lines = wrote }))
     rows (omega arith) (omega arith)

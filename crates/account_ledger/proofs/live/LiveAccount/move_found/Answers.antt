@@ -44,7 +44,7 @@ returns-then-eq g c =
     let kept : Changes IsSame l.told l.told = changes_same {X = Told} IsSame (λ (x : Told). refl) l.told in
     let replied = λ (account : Account) (shows : Shows l account).
     within_replied l account shows from base to c.requires.source c.requires.target file (known l account Found shows c.requires.found) same in
-    steps_then call [] (Ok Moved) ⊥ l l l (λ f. f) (prepares_same ⊥ (needs l.roots call) l (λ f. f)) c.is_whole.ensures
+    steps_then call [] (Ok Moved) ⊥ l l l (λ f. f) (prepares_same ⊥ (needs l.roots call) l (λ f. f)) c.show_whole.ensures
     (none_needed call l l (λ root. no_gain (governs_at l.roots root from) (governs_at l.roots root to) (ap (governs_at l.roots root) ((bytes_eq-Decides from to).0 same))))
     (acts_still call [] Moved l replied (record { kind = refl; names = tt }) refl (ap (λ (b : Bool). if b then nothing else (named_line from base (Some from) (Some to))) same)
     (changes_known Found IsSame (OnFiles (λ files files1. RowsFor l.epoch call [] Moved files.rows files1.rows)) l.told l.told c.requires.found kept

@@ -25,7 +25,7 @@ returns-then-not-has_mailbox g c =
     let to = c.args.to.now in
     let none : list_any (λ mailbox. bytes_eq mailbox from) l.mailboxes ≡ false = search rules in
     let replied = λ (account : Account) (shows : Shows l account). no_source l.roots account from base to (nowhere_in l account shows from none) in
-    steps_refused (Move from base to) [] NoMailbox l c.is_whole.ensures refl replied (record { kind = refl; names = tt })
+    steps_refused (Move from base to) [] NoMailbox l c.show_whole.ensures refl replied (record { kind = refl; names = tt })
     (λ account shows. refused_leaves l.roots account from base to NoMailbox (replied account shows) refl) refl (λ rows. refl) tt
 
 pub returns-then-not-has_mailbox-2 : goal.returns-then-not-has_mailbox-2
@@ -37,7 +37,7 @@ returns-then-not-has_mailbox-2 g c =
     let there : list_any (λ mailbox. bytes_eq mailbox from) l.mailboxes ≡ true = search rules in
     let none : list_any (λ mailbox. bytes_eq mailbox to) l.mailboxes ≡ false = search rules in
     let replied = λ (account : Account) (shows : Shows l account). no_target l.roots account from base to (there_in l account shows from there) (nowhere_in l account shows to none) in
-    steps_refused (Move from base to) [] NoMailbox l c.is_whole.ensures refl replied (record { kind = refl; names = tt })
+    steps_refused (Move from base to) [] NoMailbox l c.show_whole.ensures refl replied (record { kind = refl; names = tt })
     (λ account shows. refused_leaves l.roots account from base to NoMailbox (replied account shows) refl) refl (λ rows. refl) tt
 
 pub returns-in_err-find_file : goal.returns-in_err-find_file

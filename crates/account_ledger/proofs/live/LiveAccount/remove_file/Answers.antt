@@ -55,7 +55,7 @@ returns-clause-acts g c =
     (acts_lined call l (Some message) None message.octets s.counts.deliveries (s.counts.generation + 1) (g.K.Keeper.told n) (g.K.Keeper.told w.keeper) (g.K.Keeper.faults n) (g.K.Keeper.faults w.keeper) (g.K.Keeper.append_faults n) (g.K.Keeper.append_faults w.keeper)
     (g.K.Keeper.lists w.keeper) w.self.books (λ account shows. moves_removed l account shows m base file there (known l account Found shows found)) shifted
     (rw octets at c.write_lines.ensures.books) (rw octets at c.write_lines.ensures.files)
-    (c.are_kept.ensures.each ∙ c.self.invariant.0) (c.in_default.ensures.cause.kept (search rules)) c.remove.ensures.appends (rw octets at c.write_lines.ensures.faults) (rw octets at c.write_lines.ensures.appends)
+    (c.show_kept.ensures.each ∙ c.self.invariant.0) (c.in_default.ensures.cause.kept (search rules)) c.remove.ensures.appends (rw octets at c.write_lines.ensures.faults) (rw octets at c.write_lines.ensures.appends)
     [] Removed (λ account shows. replied l account shows m base file there (known l account Found shows found) Removed) (record { kind = refl; names = tt }) refl
     (λ wrote. record { octets = message.octets; named = λ account shows. has_named l account shows m base file there (known l account Found shows found); lines = wrote })
     rows (omega arith) (omega arith)

@@ -16,7 +16,7 @@ pub returns-then-not-has_part : goal.returns-then-not-has_part
 returns-then-not-has_part g c =
     let l = c.args.self.now in
     let past : length l.mailboxes ≤ c.args.index = search rules in
-    steps_answered (ScanPart c.args.index) [] NoPart ⊥ l l (λ f. f) (prepares_same ⊥ (needs l.roots (ScanPart c.args.index)) l (λ f. f)) c.is_whole.ensures
+    steps_answered (ScanPart c.args.index) [] NoPart ⊥ l l (λ f. f) (prepares_same ⊥ (needs l.roots (ScanPart c.args.index)) l (λ f. f)) c.show_whole.ensures
     (none_needed (ScanPart c.args.index) l l (λ root. refl))
     (λ account shows. no_part l account shows c.args.index past) (record { kind = refl; names = tt })
     (λ account shows. refl) refl (λ rows. refl) (inl refl)

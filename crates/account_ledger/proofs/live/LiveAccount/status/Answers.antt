@@ -17,7 +17,7 @@ returns-then-not-has_mailbox g c =
     let l = c.args.self.now in
     let m = c.args.mailbox.now in
     let none : list_any (λ mailbox. bytes_eq mailbox m) l.mailboxes ≡ false = search rules in
-    steps_refused (StatusCall m) [] NoMailbox l c.is_whole.ensures refl
+    steps_refused (StatusCall m) [] NoMailbox l c.show_whole.ensures refl
     (λ account shows. status_nowhere l account shows m none) (record { kind = refl; names = tt })
     (λ account shows. refl) refl (λ rows. refl) tt
 

@@ -15,7 +15,7 @@ returns-in_err-settle-clause-stays g c = λ failed.
     let m = c.settle.new.self in
     let prep = subst (λ set. Prepares (c.settle.result ≡ Err StoreError) (has_root set) l m) c.one.ensures c.settle.ensures.prepares in
     let doubt = subst (λ set. c.settle.result ≡ Err StoreError → StaysInDoubt (has_root set) m.books) c.one.ensures c.settle.ensures.failed in
-    stays_unsettled c.args.root l m c.settle.result prep c.is_whole.ensures doubt c.settle.ensures.spared c.settle.ensures.never_full c.in_err-settle.field-0.0 c.in_err-settle.was
+    stays_unsettled c.args.root l m c.settle.result prep c.show_whole.ensures doubt c.settle.ensures.spared c.settle.ensures.never_full c.in_err-settle.field-0.0 c.in_err-settle.was
 
 pub returns-clause-usage : goal.returns-clause-usage
 returns-clause-usage g c = λ account shows.

@@ -21,7 +21,7 @@ returns-clause-verdict g c = λ account shows.
     let settled = subst (λ (v : Live). AreSettled (has_root c.args.set) (store_of v)) (sym c.self.view_is) c.requires.settled in
     let below = subst (λ (v : Live). All (λ root. root < length v.roots) c.args.set) (sym c.self.view_is) c.requires.inside in
     let same = over_is l account shown c.args.set (has_below c.args.set (length s.roots) below) settled c.args.octets in
-    let all : All AreLimits s.ledgers.limits = rw c.limits.ensures at c.are_limits.ensures in
+    let all : All AreLimits s.ledgers.limits = rw c.limits.ensures at c.show_limits.ensures in
     let made : take (length s.ledgers.books) c.totals_of-totals.result ≡ totals_of s.ledgers.books = rw c.books.ensures at c.totals_of-totals.ensures.value in
     rw (← c.self.view_is) (verdict_is _ c.admit.result c.admit.ensures.none_over c.admit.ensures.over _
     (rw (c.limits-2.ensures, c.books-count.ensures, made)

@@ -10,19 +10,19 @@ use Rattle.account_ledger.proofs.state.AccountState.usage.Goals as goal
 pub invariant_of-self : goal.invariant_of-self
 invariant_of-self g c =
     let s = c.self.inside in
-    order_prepared (g.K.Keeper.told s.opened.value) (g.K.Keeper.faults s.opened.value) s.setup.value s.journal s.live s.history.items c.self.invariant c.is_whole.ensures
+    order_prepared (g.K.Keeper.told s.opened.value) (g.K.Keeper.faults s.opened.value) s.setup.value s.journal s.live s.history.items c.self.invariant c.show_whole.ensures
     _ _ c.usage-usage.new.self c.usage-usage.ensures.prepares
 
 pub returns-clause-usage : goal.returns-clause-usage
 returns-clause-usage g c =
     let s = c.self.inside in
     subst (λ (v : State). IfOk c.usage-usage.result (λ totals. OfAccount v (λ account. totals ≡ usage_at v.origin.roots c.args.root account))) c.self.view_is
-    (usage_seen (g.K.Keeper.told s.opened.value) (g.K.Keeper.faults s.opened.value) s.setup.value s.journal s.live s.history.items c.self.invariant c.is_whole.ensures
+    (usage_seen (g.K.Keeper.told s.opened.value) (g.K.Keeper.faults s.opened.value) s.setup.value s.journal s.live s.history.items c.self.invariant c.show_whole.ensures
     c.args.root c.usage-usage.result c.usage-usage.ensures.usage)
 
 pub returns-clause-settles : goal.returns-clause-settles
 returns-clause-settles g c =
     let s = c.self.inside in
     subst (λ (v : State). SettlesSome (IsAccount v) (nat_eq c.args.root) v.store (store_of c.usage-usage.new.self)) c.self.view_is
-    (settles_seen (g.K.Keeper.told s.opened.value) (g.K.Keeper.faults s.opened.value) s.setup.value s.journal s.live s.history.items c.self.invariant c.is_whole.ensures
+    (settles_seen (g.K.Keeper.told s.opened.value) (g.K.Keeper.faults s.opened.value) s.setup.value s.journal s.live s.history.items c.self.invariant c.show_whole.ensures
     (nat_eq c.args.root) (store_of c.usage-usage.new.self) c.usage-usage.ensures.prepares.settles)

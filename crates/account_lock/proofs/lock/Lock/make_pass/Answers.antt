@@ -4,7 +4,7 @@ use Rattle.account_lock.proofs.Joins.{splits}
 use Rattle.account_lock.proofs.lock.Lock.make_pass.Goals as goal
 
 pub split_seat-other-requires : goal.split_seat-other-requires
-split_seat-other-requires g c = let r = c.requires.rests in let room = c.requires.room in
+split_seat-other-requires g c = let r = c.requires.rests in let room = c.requires.more_callers in
     (c.requires.lock, omega arith, splits g.V.Booked.origin g.V.Booked.history _ _ _ r.0 c.requires.first r.2 (omega arith))
 
 pub fetch_add-requires : goal.fetch_add-requires

@@ -1,6 +1,6 @@
 use Rattle.std.proofs.Common.{None, Some}
 use Rattle.quota_roots.proofs.GoverningLemmas.{coming_has}
-use Rattle.quota_roots.proofs.roots.Roots.coming.Goals as goal
+use Rattle.quota_roots.proofs.roots.Roots.gainers.Goals as goal
 
 pub returns-in-None-clause-members : goal.returns-in-None-clause-members
 returns-in-None-clause-members c = λ root. rw (c.roots_of.ensures.value, c.in-None.is) (coming_has c.args.self.now None c.args.to.now root)

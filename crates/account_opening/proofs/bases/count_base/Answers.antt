@@ -2,7 +2,7 @@ use Rattle.std.proofs.Common.{◌∙◌, ap, cond, bytes_eq, Option, Some, ℕ}
 use Rattle.std.proofs.lemmas.Map.Text.{btree_map_updates_str}
 use Rattle.account_opening.specs.Bases.{noted}
 use Rattle.account_opening.proofs.NoteLemmas.{over_again}
-use Rattle.account_opening.proofs.bases.note.Goals as goal
+use Rattle.account_opening.proofs.bases.count_base.Goals as goal
 
 pub returns-then-is_none-clause-notes : goal.returns-then-is_none-clause-notes
 returns-then-is_none-clause-notes c = btree_map_updates_str c.args.base.now c.args.notes.now c.insert.new.self _ c.in_ok-insert.ensures.updates
