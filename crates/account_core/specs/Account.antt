@@ -1,4 +1,5 @@
--- What an account is, and the usage of a root: the octets and the number of the messages whose mailboxes the root governs.
+-- What an account is, and the usage of a root: the octets and the number of the messages whose
+-- mailboxes the root governs.
 use Rattle.std.specs.Prelude.{ℕ, List, sum_by, if◌then◌else◌}
 use Rattle.quota_units.specs.Limiting.{LimitNumbers}
 use Rattle.quota_units.specs.declared.flags.Flags.{Flags}
@@ -29,4 +30,7 @@ abbrev pub counted : RootSpec → (Message → ℕ) → List Message → ℕ
 counted root weight messages = sum_by (λ m. if governs root m.mailbox then weight m else 0) messages
 
 abbrev pub usage : RootSpec → Account → Totals
-usage root account = record { octets = counted root (λ m. m.octets) account.messages; count = counted root (λ m. 1) account.messages }
+usage root account = record {
+  octets = counted root (λ m. m.octets) account.messages;
+  count = counted root (λ m. 1) account.messages;
+}

@@ -13,11 +13,17 @@ use Rattle.account_core.specs.Refusals.{in_mailbox, if_message, over_of, over_in
 -- the answer to a delivery: its number counts the accepted deliveries, from 1 on
 abbrev pub delivery_reply : List RootSpec → Account → List ℕ → ℕ → Reply
 delivery_reply roots account mailbox octets =
-    in_mailbox account mailbox (over_or (over_in roots account mailbox octets) (Delivered (account.deliveries + 1)))
+    in_mailbox account mailbox
+    (over_or (over_in roots account mailbox octets) (Delivered (account.deliveries + 1)))
 
 -- the message that the delivery of this number brings
 abbrev pub delivered_message : ℕ → ℕ → List ℕ → ℕ → Flags → Message
-delivered_message epoch number mailbox octets flags = record { mailbox = mailbox; base = delivered_base epoch number; octets = octets; flags = flags }
+delivered_message epoch number mailbox octets flags = record {
+  mailbox = mailbox;
+  base = delivered_base epoch number;
+  octets = octets;
+  flags = flags;
+}
 
 -- the account after a delivery that was answered so: an accepted message stands at the end
 abbrev pub delivered_after : Account → List ℕ → ℕ → Flags → Reply → Account
@@ -30,36 +36,50 @@ delivered_after account mailbox octets flags given = account
 
 -- the answer to a call on the message of a mailbox, where it is there
 abbrev pub message_reply : Account → List ℕ → List ℕ → Reply → Reply
-message_reply account mailbox base given = in_mailbox account mailbox (if_message (named_message mailbox base account.messages) given)
+message_reply account mailbox base given =
+    in_mailbox account mailbox (if_message (named_message mailbox base account.messages) given)
 
 -- the account after a removal that was answered so
 abbrev pub removed_after : Account → List ℕ → List ℕ → Reply → Account
-removed_after account mailbox base Removed = record account { messages = removed mailbox base account.messages; generation = account.generation + 1 }
+removed_after account mailbox base Removed = record account {
+  messages = removed mailbox base account.messages;
+  generation = account.generation + 1;
+}
 removed_after account mailbox base given = account
 
 -- the account after a mark that was answered so
 abbrev pub marked_after : Account → List ℕ → List ℕ → Flags → Reply → Account
-marked_after account mailbox base flags Marked = record account { messages = changed mailbox base (with_flags flags) account.messages }
+marked_after account mailbox base flags Marked = record account {
+  messages = changed mailbox base (with_flags flags) account.messages;
+}
 marked_after account mailbox base flags given = account
 
 -- the answer to a move to another mailbox, where the message is there
 abbrev pub move_between_reply : List RootSpec → Account → List ℕ → List ℕ → List ℕ → Message → Reply
 move_between_reply roots account from base to message =
-    if is_some (named_message to base account.messages) then NameTaken else over_or (over_of roots account (gaining roots from to) message.octets) Moved
+    if is_some (named_message to base account.messages) then NameTaken
+    else over_or (over_of roots account (gaining roots from to) message.octets) Moved
 
 -- the answer to a move, where the mailboxes are there
-abbrev pub moving_reply : List RootSpec → Account → List ℕ → List ℕ → List ℕ → Option Message → Reply
+abbrev pub moving_reply : List RootSpec → Account → List ℕ → List ℕ → List ℕ → Option Message
+    → Reply
 moving_reply roots account from base to None = NoMessage
-moving_reply roots account from base to (Some message) = if bytes_eq from to then Moved else move_between_reply roots account from base to message
+moving_reply roots account from base to (Some message) =
+    if bytes_eq from to then Moved else move_between_reply roots account from base to message
 
 -- the answer to a move
 abbrev pub move_reply : List RootSpec → Account → List ℕ → List ℕ → List ℕ → Reply
 move_reply roots account from base to =
-    in_mailbox account from (in_mailbox account to (moving_reply roots account from base to (named_message from base account.messages)))
+    in_mailbox account from (in_mailbox account to
+    (moving_reply roots account from base to (named_message from base account.messages)))
 
--- the account after a move that was answered so: the message keeps its place, and a move within a mailbox changes nothing
+-- the account after a move that was answered so: the message keeps its place, and a move within a
+-- mailbox changes nothing
 abbrev pub moved_after : Account → List ℕ → List ℕ → List ℕ → Reply → Account
 moved_after account from base to Moved =
     if bytes_eq from to then account
-    else (record account { messages = changed from base (with_mailbox to) account.messages; generation = account.generation + 1 })
+    else (record account {
+      messages = changed from base (with_mailbox to) account.messages;
+      generation = account.generation + 1;
+    })
 moved_after account from base to given = account

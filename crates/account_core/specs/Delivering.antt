@@ -8,4 +8,5 @@ delivered_base epoch number = decimal epoch ++ codes "." ++ decimal number ++ co
 
 -- two deliveries of an account have different bases
 abbrev pub DeliveredBasesDiffer : Type 0
-DeliveredBasesDiffer = (epoch m n : ℕ) → m < 2 ^ 64 → n < 2 ^ 64 → delivered_base epoch m ≡ delivered_base epoch n → m ≡ n
+DeliveredBasesDiffer = (epoch m n : ℕ) → m < 2 ^ 64 → n < 2 ^ 64
+    → delivered_base epoch m ≡ delivered_base epoch n → m ≡ n

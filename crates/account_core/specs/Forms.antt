@@ -42,7 +42,8 @@ is_answer (Install generation) (Changed then now) = true
 is_answer (Install generation) (Installed usages) = true
 is_answer call given = false
 
--- the roots that a reply names are there, and the begin of a scan names those that govern each mailbox
+-- the roots that a reply names are there, and the begin of a scan names those that govern each
+-- mailbox
 abbrev pub NamesRoots : List RootSpec → List (List ℕ) → Reply → Type 0
 NamesRoots roots mailboxes (Over root resource) = root < length roots
 NamesRoots roots mailboxes (Quota row) = row.root < length roots
@@ -52,10 +53,12 @@ NamesRoots roots mailboxes (Begun generation sets) = sets ≡ map (governing roo
 NamesRoots roots mailboxes (Installed usages) = length usages ≡ length roots
 NamesRoots roots mailboxes given = Unit {0}
 
-pub record HasForm (roots : List RootSpec) (mailboxes : List (List ℕ)) (call : Call) (given : Reply) : Type 0 where
+pub record HasForm (roots : List RootSpec) (mailboxes : List (List ℕ)) (call : Call)
+    (given : Reply) : Type 0 where
   pub kind : is_answer call given ≡ true
   pub names : NamesRoots roots mailboxes given
 
 -- The machine's replies have their form.
 abbrev pub RepliesHaveForm : Type 0
-RepliesHaveForm = (roots : List RootSpec) (account : Account) (call : Call) → HasForm roots account.mailboxes call (reply_of roots account call)
+RepliesHaveForm = (roots : List RootSpec) (account : Account) (call : Call)
+    → HasForm roots account.mailboxes call (reply_of roots account call)

@@ -25,29 +25,36 @@ is_change call given = false
 
 -- whether an entry without fault does
 abbrev pub changes : List RootSpec → Account → Entry → Bool
-changes roots account entry = if entry.fault then false else is_change entry.call (reply_of roots account entry.call)
+changes roots account entry =
+    if entry.fault then false else is_change entry.call (reply_of roots account entry.call)
 
--- the generation of a history: how many of its entries without fault were answered Delivered, Removed, or Moved between two mailboxes
+-- the generation of a history: how many of its entries without fault were answered Delivered,
+-- Removed, or Moved between two mailboxes
 abbrev pub generation : List RootSpec → Account → List Entry → ℕ
 generation roots account [] = 0
 generation roots account (entry ∷ entries) =
-    (if changes roots account entry then 1 else 0) + generation roots (account_after roots account entry) entries
+    (if changes roots account entry then 1
+    else 0) + generation roots (account_after roots account entry) entries
 
--- the account's number of changes is the generation of its history, on top of what it was opened with, which is 0
+-- the account's number of changes is the generation of its history, on top of what it was opened
+-- with, which is 0
 abbrev pub GenerationIsCounted : Type 0
 GenerationIsCounted =
     (roots : List RootSpec) (opening : Account) (history : List Entry)
-    → (replay roots opening history).generation ≡ opening.generation + generation roots opening history
+    → (replay roots opening history).generation
+    ≡ opening.generation + generation roots opening history
 
 -- a message but for its flags
 abbrev pub unflagged : Message → List ℕ × List ℕ × ℕ
 unflagged message = (message.mailbox, message.base, message.octets)
 
--- Where a history begins with another of the same generation, the messages of their accounts agree in mailbox, base and octets,
--- one by one in order, and every usage is equal.
+-- Where a history begins with another of the same generation, the messages of their accounts agree
+-- in mailbox, base and octets, one by one in order, and every usage is equal.
 abbrev pub EqualGenerationEqualUsage : Type 0
 EqualGenerationEqualUsage =
     (roots : List RootSpec) (opening : Account) (earlier later : List Entry) → Begins earlier later
     → generation roots opening earlier ≡ generation roots opening later
-    → (map unflagged (replay roots opening earlier).messages ≡ map unflagged (replay roots opening later).messages)
-    × ((root : RootSpec) → usage root (replay roots opening earlier) ≡ usage root (replay roots opening later))
+    → (map unflagged (replay roots opening earlier).messages
+    ≡ map unflagged (replay roots opening later).messages)
+    × ((root : RootSpec)
+    → usage root (replay roots opening earlier) ≡ usage root (replay roots opening later))

@@ -1,10 +1,12 @@
--- Histories under several callers: where one begins, what begins it, and which of its entries are a caller's.
+-- Histories under several callers: where one begins, what begins it, and which of its entries are a
+-- caller's.
 use Rattle.std.specs.Prelude.{◌≡◌, ◌<◌, ◌==◌, ℕ, if◌then◌else◌, List, [], ◌∷◌, ◌++◌, Option}
 use Rattle.quota_roots.specs.declared.root.RootSpec.{RootSpec}
 use Rattle.account_core.specs.declared.calls.Entry.{Entry}
 use Rattle.account_core.specs.Account.{Account}
 
--- Where a history begins. The opening account is there where the account's store tells what it holds.
+-- Where a history begins. The opening account is there where the account's store tells what it
+-- holds.
 pub record Origin : Type 0 where
   pub roots : List RootSpec
   -- the most entries
@@ -25,7 +27,8 @@ EachBegins (entries ∷ lists) history = Begins entries history × EachBegins li
 -- the entries of one caller, in their order
 abbrev pub calls_by : ℕ → List Entry → List Entry
 calls_by caller [] = []
-calls_by caller (entry ∷ entries) = if entry.caller == caller then entry ∷ calls_by caller entries else calls_by caller entries
+calls_by caller (entry ∷ entries) =
+    if entry.caller == caller then entry ∷ calls_by caller entries else calls_by caller entries
 
 -- each entry's caller has a number below this one
 abbrev pub CallersBelow : ℕ → List Entry → Type 0

@@ -1,4 +1,5 @@
--- Histories of an account: entries one after another, the account that they make, and what a call is answered after them.
+-- Histories of an account: entries one after another, the account that they make, and what a call
+-- is answered after them.
 use Rattle.std.specs.Prelude.{ℕ, Bool, if◌then◌else◌, List, [], ◌∷◌}
 use Rattle.quota_roots.specs.declared.root.RootSpec.{RootSpec}
 use Rattle.account_core.specs.declared.calls.Call.{Call}

@@ -1,4 +1,5 @@
--- What the entries of a legal history meet, and how many of them have fault; and laws of deliveries and moves, over every history.
+-- What the entries of a legal history meet, and how many of them have fault; and laws of deliveries
+-- and moves, over every history.
 use Rattle.std.specs.Prelude.{◌≡◌, ◌≢◌, ◌≤◌, ◌↔◌, ◌+◌, ◌-◌, ◌^◌, ℕ, min, true, false, if◌then◌else◌, List, [], ◌∷◌, ◌++◌, length, sum_by, codes, Some, None}
 use Rattle.quota_units.specs.Limiting.{LimitNumbers}
 use Rattle.quota_units.specs.declared.flags.Flags.{Flags}
@@ -56,45 +57,56 @@ pub record AreWithin (limits : LimitNumbers) (totals : Totals) : Type 0 where
 
 -- the usage of the root of this number is within its limits
 abbrev pub IsWithin : List RootSpec → Account → ℕ → Type 0
-IsWithin roots account root = AreWithin (limits_at account.limits root) (totals_at (usages roots account) root)
+IsWithin roots account root =
+    AreWithin (limits_at account.limits root) (totals_at (usages roots account) root)
 
 -- the message fits each root that governs the mailbox, on top of what the root has
 abbrev pub FitsIn : List RootSpec → Account → List ℕ → ℕ → Type 0
-FitsIn roots account mailbox octets = FitsEach account.limits (usages roots account) (governing roots mailbox) octets
+FitsIn roots account mailbox octets =
+    FitsEach account.limits (usages roots account) (governing roots mailbox) octets
 
--- No accepted message breaks a limit: after the entry of a delivery that was accepted, each root that governs the mailbox has a
--- usage within its limits. It holds after every history, so after every legal one.
+-- No accepted message breaks a limit: after the entry of a delivery that was accepted, each root
+-- that governs the mailbox has a usage within its limits. It holds after every history, so after
+-- every legal one.
 abbrev pub NoneBroken : Type 0
 NoneBroken =
     (roots : List RootSpec) (opening : Account) (history : List Entry) (caller : ℕ)
     (mailbox : List ℕ) (octets : ℕ) (flags : Flags) (number : ℕ)
     → reply roots opening history (Deliver mailbox octets flags) ≡ Delivered number
     → (root : ℕ) → governs_at roots root mailbox ≡ true
-    → IsWithin roots (replay roots opening (history ++ entry_of caller (Deliver mailbox octets flags) false ∷ [])) root
+    → IsWithin roots (replay roots opening
+    (history ++ entry_of caller (Deliver mailbox octets flags) false ∷ [])) root
 
 abbrev pub IsOver : Reply → Type 0
 IsOver given = (root : ℕ) × (resource : Resource) × (given ≡ Over root resource)
 
--- A delivery to a mailbox that exists, and a check, are answered that a root would be over exactly where the message does not fit.
+-- A delivery to a mailbox that exists, and a check, are answered that a root would be over exactly
+-- where the message does not fit.
 abbrev pub OverWhereNoFit : Type 0
 OverWhereNoFit =
     (roots : List RootSpec) (opening : Account) (history : List Entry) (octets : ℕ)
-    → ((mailbox : List ℕ) (flags : Flags) → has_mailbox (replay roots opening history) mailbox ≡ true
-    → (IsOver (reply roots opening history (Deliver mailbox octets flags)) ↔ ¬ FitsIn roots (replay roots opening history) mailbox octets))
-    × (IsOver (reply roots opening history (Check octets)) ↔ ¬ FitsIn roots (replay roots opening history) (codes "INBOX") octets)
+    → ((mailbox : List ℕ) (flags : Flags)
+    → has_mailbox (replay roots opening history) mailbox ≡ true
+    → (IsOver (reply roots opening history (Deliver mailbox octets flags))
+    ↔ ¬ FitsIn roots (replay roots opening history) mailbox octets))
+    × (IsOver (reply roots opening history (Check octets))
+    ↔ ¬ FitsIn roots (replay roots opening history) (codes "INBOX") octets)
 
 -- the message fits each root that governs the target of a move and not its source
 abbrev pub FitsMoved : List RootSpec → Account → List ℕ → List ℕ → ℕ → Type 0
-FitsMoved roots account from to octets = FitsEach account.limits (usages roots account) (gaining roots from to) octets
+FitsMoved roots account from to octets =
+    FitsEach account.limits (usages roots account) (gaining roots from to) octets
 
--- No moved message breaks a limit: after the entry of a move that was answered Moved, each root that governs the target and not
--- the source has a usage within its limits.
+-- No moved message breaks a limit: after the entry of a move that was answered Moved, each root
+-- that governs the target and not the source has a usage within its limits.
 abbrev pub NoneBrokenByMoves : Type 0
 NoneBrokenByMoves =
-    (roots : List RootSpec) (opening : Account) (history : List Entry) (caller : ℕ) (from base to : List ℕ)
+    (roots : List RootSpec) (opening : Account) (history : List Entry) (caller : ℕ)
+    (from base to : List ℕ)
     → reply roots opening history (Move from base to) ≡ Moved
     → (root : ℕ) → governs_at roots root to ≡ true → governs_at roots root from ≡ false
-    → IsWithin roots (replay roots opening (history ++ entry_of caller (Move from base to) false ∷ [])) root
+    → IsWithin roots
+    (replay roots opening (history ++ entry_of caller (Move from base to) false ∷ [])) root
 
 -- the message is there, and nothing but a limit can keep it from the target
 pub record MayMove (account : Account) (from base to : List ℕ) (message : Message) : Type 0 where
@@ -104,8 +116,8 @@ pub record MayMove (account : Account) (from base to : List ℕ) (message : Mess
   pub apart : from ≢ to
   pub free : named_message to base account.messages ≡ None
 
--- A move is answered that a root would be over exactly where nothing else keeps the message from the target, and the message does
--- not fit the roots that govern the target and not the source.
+-- A move is answered that a root would be over exactly where nothing else keeps the message from
+-- the target, and the message does not fit the roots that govern the target and not the source.
 abbrev pub MoveOverWhereNoFit : Type 0
 MoveOverWhereNoFit =
     (roots : List RootSpec) (opening : Account) (history : List Entry) (from base to : List ℕ)

@@ -11,7 +11,8 @@ use Rattle.account_core.specs.Histories.{Origin, calls_by}
 
 -- A reply to a call after these entries. It is the machine's if the opening account is told,
 -- and it always has the form of a reply to the call, with roots that are there.
-pub record IsReply (origin : Origin) (entries : List Entry) (call : Call) (given : Reply) : Type 0 where
+pub record IsReply (origin : Origin) (entries : List Entry) (call : Call)
+    (given : Reply) : Type 0 where
   pub machine : IfSome origin.account (λ opening. given ≡ reply origin.roots opening entries call)
   pub mailboxes : List (List ℕ)
   pub form : HasForm origin.roots mailboxes call given
@@ -36,9 +37,10 @@ AreOthers number (entry ∷ entries) = (entry.caller ≢ number) × AreOthers nu
 abbrev pub AreNone : List Entry → Type 0
 AreNone entries = entries ≡ []
 
--- The calls of a caller, with their answers, take what it has seen of the history from seen to seen'.
--- Before each of them, and after the last, entries of these others may stand.
-abbrev pub Logged : (List Entry → Type 0) → Origin → ℕ → List Entry → List (Call × Answer) → List Entry → Type 0
+-- The calls of a caller, with their answers, take what it has seen of the history from seen to
+-- seen'. Before each of them, and after the last, entries of these others may stand.
+abbrev pub Logged : (List Entry → Type 0) → Origin → ℕ → List Entry → List (Call × Answer)
+    → List Entry → Type 0
 Logged Others origin number seen [] seen' =
     (others : List Entry) × Others others × (seen' ≡ seen ++ others)
 Logged Others origin number seen ((call, answer) ∷ log) seen' =
@@ -65,7 +67,8 @@ Serves origin number seen call (Err NoMemory) seen' = seen' ≡ seen
 -- Two logs, one after the other, are one log, and its entries are those of both.
 abbrev pub LogsJoin : Type 0
 LogsJoin =
-    (origin : Origin) (number : ℕ) (first between last : List Entry) (log more : List (Call × Answer))
+    (origin : Origin) (number : ℕ) (first between last : List Entry)
+    (log more : List (Call × Answer))
     → Logged (AreOthers number) origin number first log between
     → Logged (AreOthers number) origin number between more last
     → Logged (AreOthers number) origin number first (log ++ more) last

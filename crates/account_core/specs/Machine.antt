@@ -17,13 +17,19 @@ pub use Rattle.account_core.specs.Changing.{delivery_reply, delivered_message, d
 
 -- a root's number, usage and limits
 abbrev pub row_of : Account → ℕ → RootSpec → LimitNumbers → RootRow
-row_of account number root limits = record { root = number; octets = (usage root account).octets; count = (usage root account).count; limits = limits }
+row_of account number root limits = record {
+  root = number;
+  octets = (usage root account).octets;
+  count = (usage root account).count;
+  limits = limits;
+}
 
 -- each root with its row, numbered from this number on
 abbrev pub rows_from : Account → ℕ → List RootSpec → List LimitNumbers → List (RootSpec × RootRow)
 rows_from account number [] limits = []
 rows_from account number (root ∷ roots) [] = []
-rows_from account number (root ∷ roots) (own ∷ limits) = (root, row_of account number root own) ∷ rows_from account (number + 1) roots limits
+rows_from account number (root ∷ roots) (own ∷ limits) =
+    (root, row_of account number root own) ∷ rows_from account (number + 1) roots limits
 
 abbrev pub rows : List RootSpec → Account → List (RootSpec × RootRow)
 rows roots account = rows_from account 0 roots account.limits
@@ -43,7 +49,8 @@ limits_reply limits (Some (root, row)) = LimitsSet (record row { limits = limits
 
 -- the rows of the roots that govern the mailbox, in order
 abbrev pub governing_rows : List RootSpec → Account → List ℕ → List RootRow
-governing_rows roots account mailbox = map (λ x. x.1) (filter (λ x. governs x.0 mailbox) (rows roots account))
+governing_rows roots account mailbox =
+    map (λ x. x.1) (filter (λ x. governs x.0 mailbox) (rows roots account))
 
 -- what the account answers
 abbrev pub reply_of : List RootSpec → Account → Call → Reply
@@ -67,13 +74,19 @@ limits_after (Some at) limits all = set all at limits
 
 -- the account after the call
 abbrev pub step : List RootSpec → Account → Call → Account
-step roots account (Deliver mailbox octets flags) = delivered_after account mailbox octets flags (delivery_reply roots account mailbox octets)
+step roots account (Deliver mailbox octets flags) =
+    delivered_after account mailbox octets flags (delivery_reply roots account mailbox octets)
 step roots account (Check octets) = account
-step roots account (Remove mailbox base) = removed_after account mailbox base (message_reply account mailbox base Removed)
-step roots account (Mark mailbox base flags) = marked_after account mailbox base flags (message_reply account mailbox base Marked)
-step roots account (Move from base to) = moved_after account from base to (move_reply roots account from base to)
+step roots account (Remove mailbox base) =
+    removed_after account mailbox base (message_reply account mailbox base Removed)
+step roots account (Mark mailbox base flags) =
+    marked_after account mailbox base flags (message_reply account mailbox base Marked)
+step roots account (Move from base to) =
+    moved_after account from base to (move_reply roots account from base to)
 step roots account (QuotaCall name) = account
-step roots account (SetLimits name limits) = record account { limits = limits_after (root_named roots name) limits account.limits }
+step roots account (SetLimits name limits) = record account {
+  limits = limits_after (root_named roots name) limits account.limits;
+}
 step roots account (RootsCall mailbox) = account
 step roots account (Status mailbox) = account
 step roots account ScanBegin = account

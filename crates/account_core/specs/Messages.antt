@@ -1,4 +1,5 @@
--- The messages of an account: the one that a mailbox and a base name, and what a mailbox's messages add up to.
+-- The messages of an account: the one that a mailbox and a base name, and what a mailbox's messages
+-- add up to.
 use Rattle.std.specs.Prelude.{ℕ, Bool, ◌&&◌, List, [], ◌∷◌, Option, find, sum_by, bytes_eq, if◌then◌else◌}
 use Rattle.quota_units.specs.declared.flags.Flags.{Flags}
 use Rattle.account_core.specs.Account.{Message}
@@ -20,12 +21,15 @@ how_many mailbox base messages = sum_by (λ m. if is_message mailbox base m then
 -- without the named message
 abbrev pub removed : List ℕ → List ℕ → List Message → List Message
 removed mailbox base [] = []
-removed mailbox base (message ∷ messages) = if is_message mailbox base message then messages else message ∷ removed mailbox base messages
+removed mailbox base (message ∷ messages) =
+    if is_message mailbox base message then messages else message ∷ removed mailbox base messages
 
 -- with the named message changed, in its place
 abbrev pub changed : List ℕ → List ℕ → (Message → Message) → List Message → List Message
 changed mailbox base change [] = []
-changed mailbox base change (message ∷ messages) = if is_message mailbox base message then change message ∷ messages else message ∷ changed mailbox base change messages
+changed mailbox base change (message ∷ messages) =
+    if is_message mailbox base message then change message ∷ messages
+    else message ∷ changed mailbox base change messages
 
 abbrev pub with_flags : Flags → Message → Message
 with_flags flags message = record message { flags = flags }

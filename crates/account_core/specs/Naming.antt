@@ -14,10 +14,14 @@ AreApart messages = (mailbox base : List ℕ) → how_many mailbox base messages
 -- no message has the base of a delivery that is yet to come
 abbrev pub AreUnused : Account → Type 0
 AreUnused account =
-    (number : ℕ) → account.deliveries < number → number < 2 ^ 64 → (mailbox : List ℕ) → how_many mailbox (delivered_base account.epoch number) account.messages ≡ 0
+    (number : ℕ) → account.deliveries < number → number < 2 ^ 64 → (mailbox : List ℕ)
+    → how_many mailbox (delivered_base account.epoch number) account.messages ≡ 0
 
--- Where no mailbox has a base twice and no message has the base of a delivery to come, none has a base twice after any history.
+-- Where no mailbox has a base twice and no message has the base of a delivery to come, none has a
+-- base twice after any history.
 abbrev pub NamesStayApart : Type 0
 NamesStayApart =
-    (roots : List RootSpec) (opening : Account) (history : List Entry) → opening.deliveries + length history < 2 ^ 64
-    → AreApart opening.messages → AreUnused opening → AreApart (replay roots opening history).messages
+    (roots : List RootSpec) (opening : Account) (history : List Entry)
+    → opening.deliveries + length history < 2 ^ 64
+    → AreApart opening.messages → AreUnused opening
+    → AreApart (replay roots opening history).messages

@@ -1,4 +1,5 @@
--- What refuses a call: a mailbox or a message that is not there, and a root that would be over a limit.
+-- What refuses a call: a mailbox or a message that is not there, and a root that would be over a
+-- limit.
 use Rattle.std.specs.Prelude.{ℕ, Bool, List, Option, Some, None, bytes_eq, map, if◌then◌else◌}
 use Rattle.std.specs.List.{list_any}
 use Rattle.quota_units.specs.declared.resource.Resource.{Resource}
@@ -28,7 +29,8 @@ usages roots account = map (λ root. usage root account) roots
 
 -- the first of these roots that a message of so many octets does not fit, and the resource
 abbrev pub over_of : List RootSpec → Account → List ℕ → ℕ → Option (ℕ × Resource)
-over_of roots account numbers octets = first_over account.limits (usages roots account) numbers octets
+over_of roots account numbers octets =
+    first_over account.limits (usages roots account) numbers octets
 
 -- the same among the roots that govern the mailbox
 abbrev pub over_in : List RootSpec → Account → List ℕ → ℕ → Option (ℕ × Resource)

@@ -17,13 +17,20 @@ are_housed account = list_all (λ m. has_mailbox account m.mailbox) account.mess
 
 -- the parts of the mailboxes that the root governs, added up
 abbrev pub parts_of : RootSpec → (Message → ℕ) → Account → ℕ
-parts_of root weight account = sum_by (λ mailbox. if governs root mailbox then sum_in mailbox weight account.messages else 0) account.mailboxes
+parts_of root weight account = sum_by (λ mailbox.
+    if governs root mailbox then sum_in mailbox weight account.messages else 0) account.mailboxes
 
 abbrev pub whole_scan : RootSpec → Account → Totals
-whole_scan root account = record { octets = parts_of root (λ m. m.octets) account; count = parts_of root (λ m. 1) account }
+whole_scan root account = record {
+  octets = parts_of root (λ m. m.octets) account;
+  count = parts_of root (λ m. 1) account;
+}
 
--- Where the mailboxes are different and each message was in one of them at the opening, the parts add up to the usage, after any history.
+-- Where the mailboxes are different and each message was in one of them at the opening, the parts
+-- add up to the usage, after any history.
 abbrev pub WholeScanIsUsage : Type 0
 WholeScanIsUsage =
-    (roots : List RootSpec) (opening : Account) (history : List Entry) → are_different opening.mailboxes ≡ true → are_housed opening ≡ true
-    → (root : RootSpec) → whole_scan root (replay roots opening history) ≡ usage root (replay roots opening history)
+    (roots : List RootSpec) (opening : Account) (history : List Entry)
+    → are_different opening.mailboxes ≡ true → are_housed opening ≡ true
+    → (root : RootSpec)
+    → whole_scan root (replay roots opening history) ≡ usage root (replay roots opening history)

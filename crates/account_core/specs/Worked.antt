@@ -12,7 +12,12 @@ use Rattle.quota_roots.specs.declared.root.RootSpec.{RootSpec}
 
 -- a message without flags
 abbrev pub plain_message : List ℕ → List ℕ → ℕ → Message
-plain_message mailbox base octets = record { mailbox = mailbox; base = base; octets = octets; flags = flags_among [] }
+plain_message mailbox base octets = record {
+  mailbox = mailbox;
+  base = base;
+  octets = octets;
+  flags = flags_among [];
+}
 
 -- the root of the empty name, which governs all mailboxes but Trash
 abbrev pub worked_root : RootSpec
@@ -37,7 +42,8 @@ made call = entry_of 0 call false
 
 -- an account that is full with the one message of INBOX
 abbrev pub full : Account
-full = worked (Some 1024) (plain_message (codes "Trash") (codes "7.mx") 1 ∷ plain_message (codes "INBOX") (codes "8.mx") 1024 ∷ [])
+full = worked (Some 1024) (plain_message (codes "Trash") (codes "7.mx") 1
+    ∷ plain_message (codes "INBOX") (codes "8.mx") 1024 ∷ [])
 
 abbrev pub out_of_trash : Call
 out_of_trash = Move (codes "Trash") (codes "7.mx") (codes "INBOX")
@@ -45,23 +51,29 @@ out_of_trash = Move (codes "Trash") (codes "7.mx") (codes "INBOX")
 abbrev pub into_trash : Call
 into_trash = Move (codes "INBOX") (codes "8.mx") (codes "Trash")
 
--- a move out of Trash is looked at like a delivery, one into it frees, and one within a mailbox is none
+-- a move out of Trash is looked at like a delivery, one into it frees, and one within a mailbox is
+-- none
 pub record MovesAreAnswered : Type 0 where
   pub too_much : reply one_root full [] out_of_trash ≡ Over 0 Storage
   pub freed : reply one_root full (made out_of_trash ∷ []) into_trash ≡ Moved
   pub fits : reply one_root full (made out_of_trash ∷ made into_trash ∷ []) out_of_trash ≡ Moved
   pub within : reply one_root full [] (Move (codes "INBOX") (codes "8.mx") (codes "INBOX")) ≡ Moved
-  pub no_source : reply one_root full [] (Move (codes "Old") (codes "8.mx") (codes "INBOX")) ≡ NoMailbox
-  pub no_target : reply one_root full [] (Move (codes "INBOX") (codes "9.mx") (codes "Old")) ≡ NoMailbox
+  pub no_source : reply one_root full [] (Move (codes "Old") (codes "8.mx") (codes "INBOX"))
+      ≡ NoMailbox
+  pub no_target : reply one_root full [] (Move (codes "INBOX") (codes "9.mx") (codes "Old"))
+      ≡ NoMailbox
   pub gone : reply one_root full (made into_trash ∷ []) into_trash ≡ NoMessage
-  pub taken : reply one_root (worked None (plain_message (codes "INBOX") (codes "1.mx") 1 ∷ plain_message (codes "Lists") (codes "1.mx") 2 ∷ [])) [] (Move (codes "INBOX") (codes "1.mx") (codes "Lists")) ≡ NameTaken
+  pub taken : reply one_root (worked None (plain_message (codes "INBOX") (codes "1.mx") 1
+      ∷ plain_message (codes "Lists") (codes "1.mx") 2 ∷ [])) []
+      (Move (codes "INBOX") (codes "1.mx") (codes "Lists")) ≡ NameTaken
 
 -- an account without limits, whose one message is moved twice and then removed
 abbrev pub free : Account
 free = worked None (plain_message (codes "INBOX") (codes "1.mx") 10 ∷ [])
 
 abbrev pub moved_twice : List Entry
-moved_twice = made (Move (codes "INBOX") (codes "1.mx") (codes "Lists")) ∷ made (Move (codes "Lists") (codes "1.mx") (codes "Trash")) ∷ []
+moved_twice = made (Move (codes "INBOX") (codes "1.mx") (codes "Lists"))
+    ∷ made (Move (codes "Lists") (codes "1.mx") (codes "Trash")) ∷ []
 
 abbrev pub marked : List ℕ → Entry
 marked letters = made (Mark (codes "INBOX") (codes "1.mx") (flags_among letters))
@@ -70,15 +82,19 @@ pub record MessagesAreCounted : Type 0 where
   pub in_trash : reply one_root free moved_twice (StatusCall (codes "Trash")) ≡ Status 1 1 0 0 10
   pub left : reply one_root free moved_twice (StatusCall (codes "INBOX")) ≡ Status 0 0 0 0 0
   pub removed : reply one_root free moved_twice (Remove (codes "Trash") (codes "1.mx")) ≡ Removed
-  pub seen : reply one_root free (marked (codes "S") ∷ []) (StatusCall (codes "INBOX")) ≡ Status 1 0 0 0 10
-  pub deleted : reply one_root free (marked (codes "S") ∷ marked (codes "T") ∷ []) (StatusCall (codes "INBOX")) ≡ Status 1 1 1 10 10
+  pub seen : reply one_root free (marked (codes "S") ∷ []) (StatusCall (codes "INBOX"))
+      ≡ Status 1 0 0 0 10
+  pub deleted : reply one_root free (marked (codes "S") ∷ marked (codes "T") ∷ [])
+      (StatusCall (codes "INBOX")) ≡ Status 1 1 1 10 10
 
 -- the numbers of a scan: the generation, and what each mailbox has
 pub record ScansAreAnswered : Type 0 where
   pub begun : reply one_root free [] ScanBegin ≡ Begun 0 ((0 ∷ []) ∷ (0 ∷ []) ∷ [] ∷ [])
-  pub refused : reply one_root full (made out_of_trash ∷ marked (codes "S") ∷ []) ScanBegin ≡ Begun 0 ((0 ∷ []) ∷ (0 ∷ []) ∷ [] ∷ [])
+  pub refused : reply one_root full (made out_of_trash ∷ marked (codes "S") ∷ []) ScanBegin
+      ≡ Begun 0 ((0 ∷ []) ∷ (0 ∷ []) ∷ [] ∷ [])
   pub part : reply one_root free [] (ScanPart 0) ≡ Part 0 10 1
   pub later : reply one_root free moved_twice (ScanPart 2) ≡ Part 2 10 1
   pub no_part : reply one_root free [] (ScanPart 3) ≡ NoPart
   pub stale : reply one_root free moved_twice (Install 0) ≡ Changed 0 2
-  pub installed : reply one_root free [] (Install 0) ≡ Installed ((record { octets = 10; count = 1 }) ∷ [])
+  pub installed : reply one_root free [] (Install 0)
+      ≡ Installed ((record { octets = 10; count = 1 }) ∷ [])

@@ -2,9 +2,11 @@ ghost use Rattle.std.specs.Prelude.{List};
 ghost use Rattle.account_core.specs.declared.calls.Entry.{Entry};
 ghost use Rattle.account_core.specs.Histories.{Origin};
 
-/// A value that stands for a history of an account. It names the history for contracts, and has no method.
+/// A value that stands for a history of an account. It names the history for contracts, and has no
+/// method.
 ///
-/// The members are where the history begins, that is what the account was opened with, and its entries since.
+/// The members are where the history begins, that is what the account was opened with, and its
+/// entries since.
 pub trait Booked {
     ghost origin: { Self → Origin };
 

@@ -19,7 +19,8 @@ pub enum Call {
     Check {
         octets: u64,
     },
-    /// The message that the mailbox and the base name is taken away. A mailbox and a base name the first message that has both.
+    /// The message that the mailbox and the base name is taken away. A mailbox and a base name the
+    /// first message that has both.
     Remove {
         mailbox: Name,
         base: Name,
@@ -49,7 +50,8 @@ pub enum Call {
     Roots {
         mailbox: Name,
     },
-    /// How many messages the mailbox of this name has, with their octets (STATUS of RFC 9051; DELETED and DELETED-STORAGE of RFC 9208).
+    /// How many messages the mailbox of this name has, with their octets (STATUS of RFC 9051;
+    /// DELETED and DELETED-STORAGE of RFC 9208).
     Status {
         mailbox: Name,
     },
@@ -108,8 +110,8 @@ pub enum Reply {
     LimitsSet(RootRow),
     /// The roots that govern the mailbox, in order.
     Roots(RootRows),
-    /// The number of the mailbox's messages, of those that lack the flag S, and of those that have the flag T; the octets of the
-    /// latter, and those of all.
+    /// The number of the mailbox's messages, of those that lack the flag S, and of those that have
+    /// the flag T; the octets of the latter, and those of all.
     Status {
         messages: u64,
         unseen: u64,
@@ -117,8 +119,8 @@ pub enum Reply {
         deleted_octets: u64,
         octets: u64,
     },
-    /// The generation: how many deliveries, removals and moves between two mailboxes were made; and the roots that govern each
-    /// mailbox, in the order of the mailboxes.
+    /// The generation: how many deliveries, removals and moves between two mailboxes were made; and
+    /// the roots that govern each mailbox, in the order of the mailboxes.
     Begun {
         generation: u64,
         sets: RootSets,
@@ -142,7 +144,8 @@ pub enum Reply {
     },
 }
 
-/// One call in the history of an account: who made it, and whether a fault of the store took its effect.
+/// One call in the history of an account: who made it, and whether a fault of the store took its
+/// effect.
 #[derive(Debug, Drop)]
 pub struct Entry {
     pub caller: u32,

@@ -4,7 +4,8 @@ ghost use Rattle.account_core.specs.Delivering.{delivered_base, DeliveredBasesDi
 use quota_units::{Name, NameError, NoMemory};
 use std::alloc::Global;
 
-/// The base of a delivered message's name: `<epoch>.<number>.quotad`, with both numbers in decimal digits.
+/// The base of a delivered message's name: `<epoch>.<number>.quotad`, with both numbers in decimal
+/// digits.
 ///
 /// # Errors
 ///

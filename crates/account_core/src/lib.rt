@@ -1,4 +1,5 @@
-//! The account machine: what an account is, what its calls are answered, and the history that its entries make.
+//! The account machine: what an account is, what its calls are answered, and the history that its
+//! entries make.
 #![tactic(auto)]
 
 mod booked;

@@ -5,7 +5,8 @@ use quota_units::Totals;
 use std::alloc::{AllocError, Global};
 use std::marker::Model;
 
-/// The sets of roots that govern mailboxes, one for each mailbox, in order. Contracts see the roots of each mailbox, by their numbers.
+/// The sets of roots that govern mailboxes, one for each mailbox, in order. Contracts see the roots
+/// of each mailbox, by their numbers.
 #[derive(Debug, Drop)]
 pub struct RootSets {
     sets: Vec<RootSet>,

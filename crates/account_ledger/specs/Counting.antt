@@ -32,7 +32,8 @@ sums_of files = record {
 abbrev pub with_file : MailboxSums → FileRow → MailboxSums
 with_file sums file = record {
   all = cut_totals (sums.all.octets + size_of_file file) (sums.all.count + 1);
-  deleted = cut_totals (sums.deleted.octets + deleted_size_of file) (sums.deleted.count + deleted_of file);
+  deleted = cut_totals (sums.deleted.octets + deleted_size_of file)
+      (sums.deleted.count + deleted_of file);
   unseen = cut (sums.unseen + unseen_of file);
 }
 
@@ -45,9 +46,10 @@ pub record AreSmallSums (sums : MailboxSums) : Type 0 where
 abbrev pub mailbox_at : List (List ℕ) → ℕ → List ℕ
 mailbox_at mailboxes index = slice_index_or mailboxes index []
 
--- Files tell the account's messages of a mailbox: any number told of each adds up to as much over both. And the account is so
--- small that no sum is cut.
+-- Files tell the account's messages of a mailbox: any number told of each adds up to as much over
+-- both. And the account is so small that no sum is cut.
 pub record TellMailbox (mailbox : List ℕ) (files : List FileRow) (account : Account) : Type 0 where
-  pub sums : (weight : Message → ℕ) → sum_by (λ file. weight (message_in mailbox file)) files ≡ sum_in mailbox weight account.messages
+  pub sums : (weight : Message → ℕ) → sum_by (λ file. weight (message_in mailbox file)) files
+      ≡ sum_in mailbox weight account.messages
   pub octets : sum_by (λ (m : Message). m.octets) account.messages ≤ most
   pub count : length account.messages ≤ most

@@ -78,7 +78,8 @@ pub record Stands (l : Live) (account : Account) (files : Files) : Type 0 where
 abbrev pub StandsIfTold : Live → Account → Type 0
 StandsIfTold l account = IfSome l.told (λ told. Stands l account told.files)
 
--- the account that the live one stands for, told by its keeper, after so few entries that no sum is cut
+-- the account that the live one stands for, told by its keeper, after so few entries that no sum is
+-- cut
 pub record Shows (l : Live) (account : Account) : Type 0 where
   pub told : Told
   pub is_told : l.told ≡ Some told
@@ -104,7 +105,8 @@ Counted (Ok given) l l' =
 Counted (Err fault) l l' = (l'.deliveries ≡ l.deliveries) × (l'.generation ≡ l.generation)
 
 -- what a call does to a live account
-pub record Steps (call : Call) (bytes : List ℕ) (result : Result Reply StepError) (l l' : Live) : Type 0 where
+pub record Steps (call : Call) (bytes : List ℕ) (result : Result Reply StepError)
+    (l l' : Live) : Type 0 where
   pub performs : Performs (Shows l) call bytes result (store_of l) (store_of l')
   pub stands : (account : Account) → Shows l account
       → StandsIfTold l' (after_call l.roots account call result)
@@ -127,7 +129,8 @@ pub record Prepares (failed : Type 0) (may : ℕ → Bool) (l l' : Live) : Type 
   pub due : Due failed l.faults l.append_faults l'.faults l'.append_faults l.told l'.told
 
 -- what a call does when the roots that it needs are settled
-pub record Acts (call : Call) (bytes : List ℕ) (result : Result Reply StepError) (l l' : Live) : Type 0 where
+pub record Acts (call : Call) (bytes : List ℕ) (result : Result Reply StepError)
+    (l l' : Live) : Type 0 where
   pub keeps : Keeps (store_of l) (store_of l')
   pub reply : Replies (Shows l) call result (store_of l)
   pub form : IfOk result (HasForm l.roots l.mailboxes call)

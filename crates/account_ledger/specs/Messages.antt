@@ -24,7 +24,8 @@ messages_of rows mailbox = map (message_in mailbox) (listed mailbox rows)
 abbrev pub messages_in : List (List ℕ) → List Row → List Message
 messages_in mailboxes rows = flat_map (messages_of rows) mailboxes
 
--- the same messages, in whatever order: any number told of each message adds up to as much over both
+-- the same messages, in whatever order: any number told of each message adds up to as much over
+-- both
 abbrev pub AreSame : List Message → List Message → Type 0
 AreSame messages others = (weight : Message → ℕ) → sum_by weight messages ≡ sum_by weight others
 

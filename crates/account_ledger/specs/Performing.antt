@@ -34,7 +34,8 @@ Replies Is call result f =
 
 -- What a call does to the ledgers and the standings of roots: those that it needs and that are in
 -- doubt are settled, and then lines or limits are written.
-pub record PerformsLedgers (Is : Account → Type 0) (call : Call) (result : Result Reply StepError) (f f' : Store) : Type 0 where
+pub record PerformsLedgers (Is : Account
+    → Type 0) (call : Call) (result : Result Reply StepError) (f f' : Store) : Type 0 where
   -- the store in between, which agrees with the account still
   pub middle : Store
   pub keeps : Keeps f middle
@@ -51,7 +52,8 @@ PerformsRows call bytes result f f' =
     f.told f'.told
 
 -- all that a call does
-pub record Performs (Is : Account → Type 0) (call : Call) (bytes : List ℕ) (result : Result Reply StepError) (f f' : Store) : Type 0 where
+pub record Performs (Is : Account → Type 0) (call : Call) (bytes : List ℕ)
+    (result : Result Reply StepError) (f f' : Store) : Type 0 where
   pub keeps : Keeps f f'
   pub reply : Replies Is call result f
   pub form : IfOk result (HasForm f.roots f.mailboxes call)

@@ -33,16 +33,20 @@ needs roots call root = false
 -- a root that was in doubt is settled
 abbrev pub IsSettledNow : (ℕ → Bool) → List Standing → List Standing → ℕ → Type 0
 IsSettledNow may standings standings' root =
-    (may root ≡ true) × (standing_at standings root ≡ Doubt) × (standing_at standings' root ≡ Settled)
+    (may root ≡ true) × (standing_at standings root ≡ Doubt)
+    × (standing_at standings' root ≡ Settled)
 
 -- nothing changes but the ledgers of roots that are settled now
-pub record SettlesLedgers (may : ℕ → Bool) (standings standings' : List Standing) (files files' : Files) : Type 0 where
+pub record SettlesLedgers (may : ℕ
+    → Bool) (standings standings' : List Standing) (files files' : Files) : Type 0 where
   pub same : ButLedgers files files'
   pub each : (root : ℕ)
       → (ledger_at files' root ≡ ledger_at files root) ⊎ IsSettledNow may standings standings' root
 
--- the ledger of each root that was in doubt and is settled is the folded text of its limits and usage
-abbrev pub AreFolded : List RootSpec → Account → List Standing → List Standing → Files → Files → Type 0
+-- the ledger of each root that was in doubt and is settled is the folded text of its limits and
+-- usage
+abbrev pub AreFolded : List RootSpec → Account → List Standing → List Standing → Files → Files
+    → Type 0
 AreFolded roots account standings standings' files files' =
     (root : ℕ) → standing_at standings root ≡ Doubt → standing_at standings' root ≡ Settled
     → ledger_at files' root

@@ -47,7 +47,8 @@ pub record Opened (s s' : State) : Type 0 where
   pub first_faults : s'.first_faults ≡ s.first_faults
 
 -- an account that was just opened, when the keeper told this and had counted these faults
-pub record IsOpened (told : Option Told) (faults : ℕ) (setup : Setup) (epoch : ℕ) (s : State) : Type 0 where
+pub record IsOpened (told : Option Told) (faults : ℕ) (setup : Setup) (epoch : ℕ)
+    (s : State) : Type 0 where
   pub roots : s.origin.roots ≡ setup.roots
   pub journal : s.origin.journal ≡ setup.journal
   pub epoch_is : s.origin.epoch ≡ epoch
@@ -72,19 +73,22 @@ entry_fault (Err StoreError) = Some true
 entry_fault (Err fault) = None
 
 -- what a call does to a state that has room for its entry
-pub record ServesNext (caller : ℕ) (call : Call) (bytes : List ℕ) (result : Result Reply StepError) (s s' : State) : Type 0 where
+pub record ServesNext (caller : ℕ) (call : Call) (bytes : List ℕ) (result : Result Reply StepError)
+    (s s' : State) : Type 0 where
   pub opened : Opened s s'
   pub serves : Serves s.origin caller s.history call result s'.history
   pub performs : Performs (IsAccount s) call bytes result s.store s'.store
 
 -- the account that the files make is orderly, and what is kept stands for it after its history
-pub record Holds (setup : Setup) (live : Live) (history : List Entry) (then now : Told) : Type 0 where
+pub record Holds (setup : Setup) (live : Live) (history : List Entry)
+    (then now : Told) : Type 0 where
   pub orderly : IsOrderly 0 (opening_account setup live.epoch then.files)
   pub stands : Stands live
       (replay live.roots (opening_account setup live.epoch then.files) history) now.files
 
 -- what is kept is in order: by what the keeper told and had counted at the opening
-pub record InOrder (then : Option Told) (first_faults : ℕ) (setup : Setup) (journal : ℕ) (live : Live) (history : List Entry) : Type 0 where
+pub record InOrder (then : Option Told) (first_faults : ℕ) (setup : Setup) (journal : ℕ)
+    (live : Live) (history : List Entry) : Type 0 where
   pub sound : IsSound setup
   pub journal_is : journal ≡ setup.journal
   pub roots_are : live.roots ≡ setup.roots

@@ -65,7 +65,8 @@ pub record Agree (f : Store) (account : Account) (files : Files) : Type 0 where
       → fresh_scan f.roots root account.mailboxes files.rows ≡ usage_at f.roots root account
   pub apart : (mailbox base : List ℕ) → how_many mailbox base account.messages ≤ 1
   pub right : (root : ℕ) → root < length f.roots → standing_at f.standings root ≡ Settled
-      → IsRight (limits_at account.limits root) (usage_at f.roots root account) (ledger_at files root)
+      → IsRight (limits_at account.limits root) (usage_at f.roots root account)
+      (ledger_at files root)
   pub long : (root : ℕ) → root < length f.roots → standing_at f.standings root ≡ Settled
       → length_at f.lengths root ≡ length (ledger_bytes files root)
 

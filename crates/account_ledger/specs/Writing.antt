@@ -32,7 +32,8 @@ LineStanding (Some change) Settled standing' = Unit {0}
 
 -- how the ledger of a root changes: a settled root whose usage changes gets its line, if the ledger
 -- has room for it, or this folded text, and no other root does
-abbrev pub LineAt : Option Change → ℕ → List ℕ → Standing → Option (List ℕ) → Standing → Option (List ℕ) → Type 0
+abbrev pub LineAt : Option Change → ℕ → List ℕ → Standing → Option (List ℕ) → Standing
+    → Option (List ℕ) → Type 0
 LineAt None octets text standing ledger standing' ledger' = ledger' ≡ ledger
 LineAt (Some change) octets text Doubt ledger standing' ledger' = ledger' ≡ ledger
 LineAt (Some change) octets text Settled ledger standing' ledger' =
@@ -58,7 +59,8 @@ how_many_fell room from to octets f f' =
 -- A message of these octets goes from one mailbox to another by this call, and each settled root
 -- whose usage changes gets one line. A root falls into doubt only if its own line, or the folded
 -- text in its place, could not be written.
-pub record WritesLines (Is : Account → Type 0) (call : Call) (from to : Option (List ℕ)) (octets : ℕ) (f f' : Store) : Type 0 where
+pub record WritesLines (Is : Account
+    → Type 0) (call : Call) (from to : Option (List ℕ)) (octets : ℕ) (f f' : Store) : Type 0 where
   pub count : length f'.standings ≡ length f.standings
   pub standings : (root : ℕ) → LineStanding (change_at f.roots from to root)
       (standing_at f.standings root) (standing_at f'.standings root)
@@ -79,10 +81,12 @@ pub record InstallsLimits (row : RootRow) (f f' : Store) : Type 0 where
 -- the named message has these octets
 abbrev pub HasNamed : List ℕ → List ℕ → ℕ → Account → Type 0
 HasNamed mailbox base octets account =
-    option_map (λ message. message.octets) (named_message mailbox base account.messages) ≡ Some octets
+    option_map (λ message. message.octets) (named_message mailbox base account.messages)
+    ≡ Some octets
 
 -- the message that the mailbox and the base name goes from one mailbox to another, with its octets
-pub record WritesMove (Is : Account → Type 0) (call : Call) (mailbox base : List ℕ) (from to : Option (List ℕ)) (f f' : Store) : Type 0 where
+pub record WritesMove (Is : Account → Type 0) (call : Call) (mailbox base : List ℕ)
+    (from to : Option (List ℕ)) (f f' : Store) : Type 0 where
   pub octets : ℕ
   pub named : (account : Account) → Is account → HasNamed mailbox base octets account
   pub lines : WritesLines Is call from to octets f f'
@@ -106,7 +110,8 @@ writing call given = nothing
 abbrev pub WritesSo : (Account → Type 0) → Call → Writing → Store → Store → Type 0
 WritesSo Is call nothing f f' = LedgersAndFaultsStay f f'
 WritesSo Is call (line from to octets) f f' = WritesLines Is call from to octets f f'
-WritesSo Is call (named_line mailbox base from to) f f' = WritesMove Is call mailbox base from to f f'
+WritesSo Is call (named_line mailbox base from to) f f' =
+    WritesMove Is call mailbox base from to f f'
 WritesSo Is call (limits_of row) f f' = InstallsLimits row f f'
 
 -- a call that the store failed in leaves the ledgers, and another error all
@@ -124,7 +129,8 @@ is_filing call = false
 -- If memory ran out, standings, ledgers and counts of faults are as before; or the roots that the
 -- call needs are settled, and the keeper found no memory to put or to rename a file.
 abbrev pub Spares : Call → Store → Store → Type 0
-Spares call f f' = LedgersAndFaultsStay f f' ⊎ ((is_filing call ≡ true) × AreSettled (needs f.roots call) f')
+Spares call f f' = LedgersAndFaultsStay f f'
+    ⊎ ((is_filing call ≡ true) × AreSettled (needs f.roots call) f')
 
 -- what a reply names is not there
 abbrev pub misses : Reply → Bool

@@ -11,8 +11,8 @@ use quota_roots::Roots;
 use quota_units::{MOST, Name, Totals, cut_sum};
 use std::alloc::{AllocError, Global};
 
-/// What the messages of a mailbox add up to: all of them, those that have the flag T, and the number of those that lack the
-/// flag S.
+/// What the messages of a mailbox add up to: all of them, those that have the flag T, and the
+/// number of those that lack the flag S.
 #[derive(Clone, Copy)]
 pub(crate) struct MailboxSums {
     pub(crate) all: Totals,

@@ -1,4 +1,5 @@
-// A message is delivered: it is put into its mailbox, and the ledgers of the mailbox's roots get its line.
+// A message is delivered: it is put into its mailbox, and the ledgers of the mailbox's roots get
+// its line.
 ghost use Rattle.std.specs.Prelude.{◌≡◌, ◌<◌, ◌≤◌, ◌+◌, ◌^◌, ℕ, true, None, length, bytes_eq, IfOk};
 ghost use Rattle.std.specs.List.{list_any};
 ghost use Rattle.message_names.specs.Written.{written_name};
@@ -75,7 +76,8 @@ impl<K: Keeper> LiveAccount<K> {
     /// The file name of the next delivery.
     fn next_name(&self, alloc: Global, octets: u64, flags: Flags) -> Result<Vec<u8>, AllocError>
         requires { self.now.deliveries < 2 ^ 63 }
-        ensures { IfOk result (λ name. IsDeliveryName self.now.epoch (self.now.deliveries + 1) octets flags name.items) }
+        ensures { IfOk result (λ name.
+            IsDeliveryName self.now.epoch (self.now.deliveries + 1) octets flags name.items) }
     {
         message_name(alloc, self.epoch, self.counts.deliveries + 1, octets, flags)
     }
@@ -95,11 +97,15 @@ impl<K: Keeper> LiveAccount<K> {
         requires shown { IsShown self.old }
         requires countable { self.old.deliveries < 2 ^ 63 }
         requires changes { self.old.generation < 2 ^ 63 }
-        requires name { IsDeliveryName self.old.epoch (self.old.deliveries + 1) octets flags name.now }
+        requires name { IsDeliveryName self.old.epoch
+            (self.old.deliveries + 1) octets flags name.now }
         requires there { list_any (λ other. bytes_eq other mailbox.now) self.old.mailboxes ≡ true }
-        requires fits { (account : Account) → Shows self.old account → over_in self.old.roots account mailbox.now octets ≡ None }
-        ensures acts { Acts (Call.Deliver mailbox.now octets flags) bytes.now result self.old self.new }
-        ensures spared { result ≡ Err StepError.NoMemory → LedgersAndFaultsStay (store_of self.old) (store_of self.new) }
+        requires fits { (account : Account) → Shows self.old account
+            → over_in self.old.roots account mailbox.now octets ≡ None }
+        ensures acts { Acts
+            (Call.Deliver mailbox.now octets flags) bytes.now result self.old self.new }
+        ensures spared { result ≡ Err StepError.NoMemory
+            → LedgersAndFaultsStay (store_of self.old) (store_of self.new) }
     {
         self.ledgers.show_kept();
         let number = self.counts.deliveries + 1;

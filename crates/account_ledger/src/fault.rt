@@ -24,8 +24,10 @@ pub(crate) fn step_error(fault: KeepError) -> StepError
 
 /// What a check is answered, by the verdict on its message.
 pub(crate) fn check_reply(verdict: Verdict) -> Reply
-    ensures reply { (over : Option (ℕ × Resource)) → IsVerdict over verdict → result ≡ over_or over Reply.Fits }
-    ensures form { (roots : List RootSpec) (mailboxes : List (List ℕ)) (octets : ℕ) → IsInside (length roots) verdict → HasForm roots mailboxes (Call.Check octets) result }
+    ensures reply { (over : Option (ℕ × Resource)) → IsVerdict over verdict
+        → result ≡ over_or over Reply.Fits }
+    ensures form { (roots : List RootSpec) (mailboxes : List (List ℕ)) (octets : ℕ)
+        → IsInside (length roots) verdict → HasForm roots mailboxes (Call.Check octets) result }
     ensures there { misses result ≡ false }
 {
     match verdict {

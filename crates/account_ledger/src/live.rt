@@ -50,12 +50,13 @@ impl<K: Keeper> Model for LiveAccount<K> {
       generation = a.counts.generation;
     } };
 
-    ghost invariant = { λ a. (length a.ledgers.limits ≡ length a.roots) × AreMailboxes a.mailboxes };
+    ghost invariant = { λ a. (length a.ledgers.limits ≡ length a.roots)
+        × AreMailboxes a.mailboxes };
 }
 
 impl<K: Keeper> LiveAccount<K> {
-    /// Performs a call: what it is answered, and what it does to the files and the ledgers. It is no
-    /// entry of a history yet.
+    /// Performs a call: what it is answered, and what it does to the files and the ledgers. It is
+    /// no entry of a history yet.
     pub(crate) fn perform(
         &mut self,
         alloc: Global,
@@ -122,8 +123,10 @@ impl<K: Keeper> LiveAccount<K> {
     /// The roots that a message comes under if it goes from one mailbox to another; one that is
     /// delivered comes from none.
     pub(crate) fn gainers(&self, from: Option<&[u8]>, to: &[u8]) -> RootSet
-        ensures value { result ≡ gainers self.now.roots (option_map (λ m. m.now) from.entry) to.now }
-        ensures members { (root : ℕ) → has_root result root ≡ gains_by self.now.roots (option_map (λ m. m.now) from.entry) to.now root }
+        ensures value { result
+            ≡ gainers self.now.roots (option_map (λ m. m.now) from.entry) to.now }
+        ensures members { (root : ℕ) → has_root result root
+            ≡ gains_by self.now.roots (option_map (λ m. m.now) from.entry) to.now root }
         ensures below { All (λ root. root < length self.now.roots) result }
     {
         self.roots.gainers(from, to)

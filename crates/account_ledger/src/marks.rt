@@ -48,9 +48,11 @@ impl<K: Keeper> LiveAccount<K> {
     ) -> Result<Reply, StepError>
         requires shown { IsShown self.old }
         requires there { list_any (λ other. bytes_eq other mailbox.now) self.old.mailboxes ≡ true }
-        requires found { IfSome self.old.told (λ t. Some file.now ≡ file_named base.now (listed mailbox.now t.files.rows)) }
+        requires found { IfSome self.old.told
+            (λ t. Some file.now ≡ file_named base.now (listed mailbox.now t.files.rows)) }
         ensures acts { Acts (Call.Mark mailbox.now base.now flags) [] result self.old self.new }
-        ensures spared { result ≡ Err StepError.NoMemory → LedgersAndFaultsStay (store_of self.old) (store_of self.new) }
+        ensures spared { result ≡ Err StepError.NoMemory
+            → LedgersAndFaultsStay (store_of self.old) (store_of self.new) }
     {
         let name = file.name.as_slice();
         let Ok(marked) = with_flags(alloc, name, flags) else {

@@ -1,4 +1,5 @@
-// A message moves to another mailbox: its file moves, and roots that it leaves or comes under get its line.
+// A message moves to another mailbox: its file moves, and roots that it leaves or comes under get
+// its line.
 ghost use Rattle.std.specs.Prelude.{◌≡◌, ◌<◌, ◌^◌, [], true, false, None, Some, bytes_eq, IfSome};
 ghost use Rattle.std.specs.List.{list_any};
 ghost use Rattle.quota_roots.specs.Governing.{gaining};
@@ -21,7 +22,8 @@ use root_ledgers::size_of_file;
 use std::alloc::Global;
 
 impl<K: Keeper> LiveAccount<K> {
-    /// A move: the message of this base goes from one mailbox to another, and keeps its file's name.
+    /// A move: the message of this base goes from one mailbox to another, and keeps its file's
+    /// name.
     pub(crate) fn move_message(
         &mut self,
         alloc: Global,
@@ -59,7 +61,8 @@ impl<K: Keeper> LiveAccount<K> {
         requires changes { self.old.generation < 2 ^ 63 }
         requires source { list_any (λ other. bytes_eq other from.now) self.old.mailboxes ≡ true }
         requires target { list_any (λ other. bytes_eq other to.now) self.old.mailboxes ≡ true }
-        requires found { IfSome self.old.told (λ t. Some file.now ≡ file_named base.now (listed from.now t.files.rows)) }
+        requires found { IfSome self.old.told
+            (λ t. Some file.now ≡ file_named base.now (listed from.now t.files.rows)) }
         ensures { Steps (Call.Move from.now base.now to.now) [] result self.old self.new }
     {
         self.show_whole();
@@ -86,8 +89,10 @@ impl<K: Keeper> LiveAccount<K> {
         requires changes { self.old.generation < 2 ^ 63 }
         requires source { list_any (λ other. bytes_eq other from.now) self.old.mailboxes ≡ true }
         requires target { list_any (λ other. bytes_eq other to.now) self.old.mailboxes ≡ true }
-        requires found { IfSome self.old.told (λ t. Some file.now ≡ file_named base.now (listed from.now t.files.rows)) }
-        requires free { IfSome self.old.told (λ t. None ≡ file_named base.now (listed to.now t.files.rows)) }
+        requires found { IfSome self.old.told
+            (λ t. Some file.now ≡ file_named base.now (listed from.now t.files.rows)) }
+        requires free { IfSome self.old.told
+            (λ t. None ≡ file_named base.now (listed to.now t.files.rows)) }
         requires apart { bytes_eq from.now to.now ≡ false }
         ensures { Steps (Call.Move from.now base.now to.now) [] result self.old self.new }
     {
@@ -114,12 +119,17 @@ impl<K: Keeper> LiveAccount<K> {
         requires changes { self.old.generation < 2 ^ 63 }
         requires source { list_any (λ other. bytes_eq other from.now) self.old.mailboxes ≡ true }
         requires target { list_any (λ other. bytes_eq other to.now) self.old.mailboxes ≡ true }
-        requires found { IfSome self.old.told (λ t. Some file.now ≡ file_named base.now (listed from.now t.files.rows)) }
-        requires free { IfSome self.old.told (λ t. None ≡ file_named base.now (listed to.now t.files.rows)) }
+        requires found { IfSome self.old.told
+            (λ t. Some file.now ≡ file_named base.now (listed from.now t.files.rows)) }
+        requires free { IfSome self.old.told
+            (λ t. None ≡ file_named base.now (listed to.now t.files.rows)) }
         requires apart { bytes_eq from.now to.now ≡ false }
-        requires fits { (account : Account) → Shows self.old account → over_of self.old.roots account (gaining self.old.roots from.now to.now) (message_in from.now file.now).octets ≡ None }
+        requires fits { (account : Account) → Shows self.old account
+            → over_of self.old.roots account (gaining self.old.roots from.now to.now)
+            (message_in from.now file.now).octets ≡ None }
         ensures acts { Acts (Call.Move from.now base.now to.now) [] result self.old self.new }
-        ensures spared { result ≡ Err StepError.NoMemory → LedgersAndFaultsStay (store_of self.old) (store_of self.new) }
+        ensures spared { result ≡ Err StepError.NoMemory
+            → LedgersAndFaultsStay (store_of self.old) (store_of self.new) }
     {
         self.ledgers.show_kept();
         let octets = size_of_file(file);

@@ -1,4 +1,5 @@
-// The file of the message that a mailbox and a base name is looked for: its mailbox is listed, and no list of messages is kept.
+// The file of the message that a mailbox and a base name is looked for: its mailbox is listed, and
+// no list of messages is kept.
 ghost use Rattle.std.specs.Prelude.{◌≡◌, ◌≢◌, ◌<◌, ℕ, true, false, ◌&&◌, bytes_eq, length, IfOk, IfSome, IsErrOf};
 ghost use Rattle.quota_units.specs.Causes.{HasCause};
 ghost use Rattle.keeper.specs.Files.{listed, has_row};
@@ -26,7 +27,8 @@ impl<K: Keeper> LiveAccount<K> {
     /// The files of a mailbox.
     pub(crate) fn list(&mut self, alloc: Global, mailbox: &[u8]) -> Result<Vec<FileRow>, StepError>
         ensures looks { Looks (result ≡ Err StepError.Store) self.old self.new }
-        ensures files { IfOk result (λ files. IfSome self.old.told (λ t. files.items ≡ listed mailbox.now t.files.rows)) }
+        ensures files { IfOk result
+            (λ files. IfSome self.old.told (λ t. files.items ≡ listed mailbox.now t.files.rows)) }
         ensures whole { IsWhole self.new }
         ensures never_full { (limit : ℕ) → result ≢ Err (StepError.JournalFull limit) }
     {
@@ -42,7 +44,8 @@ impl<K: Keeper> LiveAccount<K> {
     pub(crate) fn list_part(&mut self, alloc: Global, index: u32) -> Result<Vec<FileRow>, StepError>
         requires { index < length self.old.mailboxes }
         ensures looks { Looks (result ≡ Err StepError.Store) self.old self.new }
-        ensures files { IfOk result (λ files. IfSome self.old.told (λ t. files.items ≡ listed (mailbox_at self.old.mailboxes index) t.files.rows)) }
+        ensures files { IfOk result (λ files. IfSome self.old.told
+            (λ t. files.items ≡ listed (mailbox_at self.old.mailboxes index) t.files.rows)) }
         ensures whole { IsWhole self.new }
         ensures never_full { (limit : ℕ) → result ≢ Err (StepError.JournalFull limit) }
     {
@@ -63,7 +66,8 @@ impl<K: Keeper> LiveAccount<K> {
         base: &[u8],
     ) -> Result<Option<FileRow>, StepError>
         ensures looks { Looks (result ≡ Err StepError.Store) self.old self.new }
-        ensures found { IfOk result (λ found. IfSome self.old.told (λ t. found ≡ file_named base.now (listed mailbox.now t.files.rows))) }
+        ensures found { IfOk result (λ found. IfSome self.old.told
+            (λ t. found ≡ file_named base.now (listed mailbox.now t.files.rows))) }
         ensures whole { IsWhole self.new }
         ensures never_full { (limit : ℕ) → result ≢ Err (StepError.JournalFull limit) }
     {
@@ -81,11 +85,17 @@ pub(crate) fn rename_file<K: Keeper>(
     to: &[u8],
     new_name: &[u8],
 ) -> Result<(), KeepError>
-    requires there { IfSome (K.told keeper.old) (λ t. has_row from.now name.now t.files.rows ≡ true) }
-    requires free { (bytes_eq from.now to.now && bytes_eq name.now new_name.now) ≡ false → IfSome (K.told keeper.old) (λ t. has_row to.now new_name.now t.files.rows ≡ false) }
-    ensures files { Changes (Renames from.now name.now to.now new_name.now result) (K.told keeper.old) (K.told keeper.new) }
-    ensures cause { HasCause (IsErrOf result KeepError.Failed) (K.faults keeper.old) (K.faults keeper.new) }
-    ensures due { Due (IsErrOf result KeepError.Failed) (K.faults keeper.old) (K.append_faults keeper.old) (K.faults keeper.new) (K.append_faults keeper.new) (K.told keeper.old) (K.told keeper.new) }
+    requires there { IfSome (K.told keeper.old)
+        (λ t. has_row from.now name.now t.files.rows ≡ true) }
+    requires free { (bytes_eq from.now to.now && bytes_eq name.now new_name.now) ≡ false
+        → IfSome (K.told keeper.old) (λ t. has_row to.now new_name.now t.files.rows ≡ false) }
+    ensures files { Changes (Renames from.now name.now to.now new_name.now result)
+        (K.told keeper.old) (K.told keeper.new) }
+    ensures cause { HasCause (IsErrOf result KeepError.Failed) (K.faults keeper.old)
+        (K.faults keeper.new) }
+    ensures due { Due (IsErrOf result KeepError.Failed) (K.faults keeper.old)
+        (K.append_faults keeper.old) (K.faults keeper.new) (K.append_faults keeper.new)
+        (K.told keeper.old) (K.told keeper.new) }
     ensures appends { K.append_faults keeper.new ≡ K.append_faults keeper.old }
 {
     if from == to && name == new_name {

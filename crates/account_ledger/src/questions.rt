@@ -59,7 +59,8 @@ impl<K: Keeper> LiveAccount<K> {
     fn rows_of(&self, rows: Vec<RootRow>, mailbox: &[u8]) -> RootRows
         requires empty { rows.items ≡ [] }
         requires capacity { 4 ≤ vec_capacity rows }
-        ensures rows { result ≡ kept_rows self.now.roots self.now.limits self.now.books mailbox.now }
+        ensures rows { result
+            ≡ kept_rows self.now.roots self.now.limits self.now.books mailbox.now }
         ensures inside { All (λ row. row.root < length self.now.roots) result }
     {
         self.ledgers.show_kept();
@@ -72,7 +73,8 @@ impl<K: Keeper> LiveAccount<K> {
         )
     }
 
-    /// Whether INBOX would take a message of this many octets; its roots in doubt are settled first.
+    /// Whether INBOX would take a message of this many octets; its roots in doubt are settled
+    /// first.
     pub(crate) fn check(&mut self, alloc: Global, octets: u64) -> Result<Reply, StepError>
         ensures { Steps (Call.Check octets) [] result self.old self.new }
     {

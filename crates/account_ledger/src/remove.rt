@@ -43,7 +43,8 @@ impl<K: Keeper> LiveAccount<K> {
         requires shown { IsShown self.old }
         requires changes { self.old.generation < 2 ^ 63 }
         requires there { list_any (λ other. bytes_eq other mailbox.now) self.old.mailboxes ≡ true }
-        requires found { IfSome self.old.told (λ t. Some file.now ≡ file_named base.now (listed mailbox.now t.files.rows)) }
+        requires found { IfSome self.old.told
+            (λ t. Some file.now ≡ file_named base.now (listed mailbox.now t.files.rows)) }
         ensures acts { Acts (Call.Remove mailbox.now base.now) [] result self.old self.new }
         ensures never_wanting { result ≢ Err StepError.NoMemory }
     {

@@ -23,7 +23,8 @@ fn row(limits: &[Limits], books: &[Book], root: u32) -> RootRow
     }
 }
 
-/// The rows of the roots that govern the mailbox, in order, in a list that is empty and has memory for four.
+/// The rows of the roots that govern the mailbox, in order, in a list that is empty and has memory
+/// for four.
 pub(crate) fn rows_of(
     rows: Vec<RootRow>,
     roots: &Roots,

@@ -25,13 +25,16 @@ impl<K: Keeper> LiveAccount<K> {
     ///
     /// # Errors
     ///
-    /// `Store` if the store failed: one of the roots is in doubt still. `NoMemory`: nothing changed.
+    /// `Store` if the store failed: one of the roots is in doubt still. `NoMemory`: nothing
+    /// changed.
     pub(crate) fn settle(&mut self, alloc: Global, set: RootSet) -> Result<(), StepError>
         requires { All (λ root. root < length self.old.roots) set }
-        ensures prepares { Prepares (result ≡ Err StepError.Store) (has_root set) self.old self.new }
+        ensures prepares { Prepares (result ≡ Err StepError.Store)
+            (has_root set) self.old self.new }
         ensures settled { OnOk result (AreSettled (has_root set) (store_of self.new)) }
         ensures failed { result ≡ Err StepError.Store → StaysInDoubt (has_root set) self.new.books }
-        ensures spared { result ≡ Err StepError.NoMemory → LedgersAndFaultsStay (store_of self.old) (store_of self.new) }
+        ensures spared { result ≡ Err StepError.NoMemory
+            → LedgersAndFaultsStay (store_of self.old) (store_of self.new) }
         ensures whole { IsWhole self.new }
         ensures never_full { (limit : ℕ) → result ≢ Err (StepError.JournalFull limit) }
     {
@@ -61,9 +64,11 @@ impl<K: Keeper> LiveAccount<K> {
         ensures prepares { Prepares (result ≡ Err StepError.Store) (nat_eq root) self.old self.new }
         ensures settled { OnOk result (AreSettled (nat_eq root) (store_of self.new)) }
         ensures totals { IfOk result (λ totals. totals ≡ (book_at self.new.books root).totals) }
-        ensures usage { IfOk result (λ totals. (account : Account) → Shows self.old account → totals ≡ usage_at self.old.roots root account) }
+        ensures usage { IfOk result (λ totals. (account : Account) → Shows self.old account
+            → totals ≡ usage_at self.old.roots root account) }
         ensures stays { IsErr result → LedgersStay (store_of self.old) (store_of self.new) }
-        ensures spared { result ≡ Err StepError.NoMemory → LedgersAndFaultsStay (store_of self.old) (store_of self.new) }
+        ensures spared { result ≡ Err StepError.NoMemory
+            → LedgersAndFaultsStay (store_of self.old) (store_of self.new) }
         ensures whole { IsWhole self.new }
         ensures never_full { (limit : ℕ) → result ≢ Err (StepError.JournalFull limit) }
     {
@@ -81,12 +86,13 @@ impl<K: Keeper> LiveAccount<K> {
         self.ledgers.books()[root as usize].totals
     }
 
-    /// Whether a message of this many octets fits the roots of a set, which are settled. It takes no
-    /// memory.
+    /// Whether a message of this many octets fits the roots of a set, which are settled. It takes
+    /// no memory.
     pub(crate) fn verdict(&self, set: RootSet, octets: u64) -> Verdict
         requires settled { AreSettled (has_root set) (store_of self.now) }
         requires inside { All (λ root. root < length self.now.roots) set }
-        ensures verdict { (account : Account) → Shows self.now account → IsVerdict (over_of self.now.roots account set octets) result }
+        ensures verdict { (account : Account) → Shows self.now account
+            → IsVerdict (over_of self.now.roots account set octets) result }
         ensures inside { IsInside (length self.now.roots) result }
     {
         self.ledgers.show_kept();

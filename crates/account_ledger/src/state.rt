@@ -27,7 +27,8 @@ use std::alloc::Global;
 use std::marker::Model;
 use std::snapshot::Snapshot;
 
-/// An account over a keeper: its files, the ledgers of its quota roots, and the history of its calls.
+/// An account over a keeper: its files, the ledgers of its quota roots, and the history of its
+/// calls.
 ///
 /// Contracts see its store, that is what the keeper tells and counts and which roots are settled,
 /// what the account was opened with, and the history.
@@ -72,19 +73,22 @@ impl<K: Keeper> Model for AccountState<K> {
       first_faults = K.faults a.opened.value;
     } };
 
-    ghost invariant = { λ a. InOrder (K.told a.opened.value) (K.faults a.opened.value) a.setup.value a.journal a.live a.history.items };
+    ghost invariant = { λ a. InOrder (K.told a.opened.value)
+        (K.faults a.opened.value) a.setup.value a.journal a.live a.history.items };
 }
 
 impl<K: Keeper> AccountState<K> {
-    /// Opens the account that the keeper's files tell. Its history is empty, and each of its roots is in doubt.
+    /// Opens the account that the keeper's files tell. Its history is empty, and each of its roots
+    /// is in doubt.
     ///
     /// All mailboxes are listed, then the files are looked at, and then the ledgers are read.
     ///
     /// # Errors
     ///
-    /// `Store` if the store failed; `TooManyMessages` above 1048576 files in the mailboxes; `DoubleName` at the first file
-    /// whose base another file of its mailbox has; `EpochUsed` at the first whose base begins with the epoch and a dot and ends
-    /// with `.quotad`; and `NoMemory`. The keeper comes back, with its files as they were.
+    /// `Store` if the store failed; `TooManyMessages` above 1048576 files in the mailboxes;
+    /// `DoubleName` at the first file whose base another file of its mailbox has; `EpochUsed` at
+    /// the first whose base begins with the epoch and a dot and ends with `.quotad`; and
+    /// `NoMemory`. The keeper comes back, with its files as they were.
     pub fn open(
         alloc: Global,
         keeper: K,
@@ -92,15 +96,24 @@ impl<K: Keeper> AccountState<K> {
         epoch: u64,
     ) -> Result<AccountState<K>, OpenFault<K>>
         requires { IsSound setup }
-        ensures opened { IfOk result (λ state. IsOpened (K.told keeper) (K.faults keeper) setup epoch state) }
-        ensures admitted { IfOk result (λ state. Changes (OnFiles (MayOpen setup epoch)) (K.told keeper) state.store.told) }
+        ensures opened { IfOk result
+            (λ state. IsOpened (K.told keeper) (K.faults keeper) setup epoch state) }
+        ensures admitted { IfOk result
+            (λ state. Changes (OnFiles (MayOpen setup epoch)) (K.told keeper) state.store.told) }
         ensures order { IfOk result IsInOrder }
-        ensures refused { IfErr result (λ fault. Changes (OnFiles (IsRefused setup epoch fault.cause)) (K.told keeper) (K.told fault.keeper)) }
-        ensures cause { IfErr result (λ fault. HasCause (fault.cause ≡ OpenError.Store) (K.faults keeper) (K.faults fault.keeper)) }
-        ensures appends { IfOk result (λ state. state.store.append_faults ≡ K.append_faults keeper) }
-        ensures appends_then { IfErr result (λ fault. K.append_faults fault.keeper ≡ K.append_faults keeper) }
-        ensures due { IfOk result (λ state. Due ⊥ (K.faults keeper) (K.append_faults keeper) state.store.faults state.store.append_faults (K.told keeper) state.store.told) }
-        ensures due_then { IfErr result (λ fault. Due (fault.cause ≡ OpenError.Store) (K.faults keeper) (K.append_faults keeper) (K.faults fault.keeper) (K.append_faults fault.keeper) (K.told keeper) (K.told fault.keeper)) }
+        ensures refused { IfErr result (λ fault. Changes
+            (OnFiles (IsRefused setup epoch fault.cause)) (K.told keeper) (K.told fault.keeper)) }
+        ensures cause { IfErr result (λ fault.
+            HasCause (fault.cause ≡ OpenError.Store) (K.faults keeper) (K.faults fault.keeper)) }
+        ensures appends { IfOk result
+            (λ state. state.store.append_faults ≡ K.append_faults keeper) }
+        ensures appends_then { IfErr result
+            (λ fault. K.append_faults fault.keeper ≡ K.append_faults keeper) }
+        ensures due { IfOk result (λ state. Due ⊥ (K.faults keeper) (K.append_faults keeper)
+            state.store.faults state.store.append_faults (K.told keeper) state.store.told) }
+        ensures due_then { IfErr result (λ fault. Due (fault.cause ≡ OpenError.Store)
+            (K.faults keeper) (K.append_faults keeper) (K.faults fault.keeper)
+            (K.append_faults fault.keeper) (K.told keeper) (K.told fault.keeper)) }
     {
         let mut keeper = keeper;
         let opened = Snapshot::of(&keeper);
@@ -172,23 +185,29 @@ impl<K: Keeper> AccountState<K> {
         self.live.ledgers.books()[root as usize].standing
     }
 
-    /// Serves a call of this caller: a delivery, a check, a removal, new flags, a move, new limits, a question on the quota of a
-    /// root, on the roots of a mailbox or on its status, the begin of a scan, or a part of one. The begin of a scan lists no
-    /// mailbox, and a part lists its own alone.
+    /// Serves a call of this caller: a delivery, a check, a removal, new flags, a move, new limits,
+    /// a question on the quota of a root, on the roots of a mailbox or on its status, the begin of
+    /// a scan, or a part of one. The begin of a scan lists no mailbox, and a part lists its own
+    /// alone.
     ///
-    /// `bytes` are the octets of a delivered message, at most 67108864, and empty for the other calls.
+    /// `bytes` are the octets of a delivered message, at most 67108864, and empty for the other
+    /// calls.
     ///
-    /// All memory is taken before a file is changed, but for what the keeper needs to put a message's file or to rename it.
+    /// All memory is taken before a file is changed, but for what the keeper needs to put a
+    /// message's file or to rename it.
     ///
-    /// A delivery that is accepted, a removal and a move write one line into the ledger of each settled root whose usage changes,
-    /// or fold the ledger if there is no room. If that fails the call is answered all the same, and that root is in doubt.
+    /// A delivery that is accepted, a removal and a move write one line into the ledger of each
+    /// settled root whose usage changes, or fold the ledger if there is no room. If that fails the
+    /// call is answered all the same, and that root is in doubt.
     ///
     /// # Errors
     ///
-    /// `JournalFull` exactly if the history holds as many entries as the setup's journal allows; nothing changes then.
-    /// `Store` only if the store failed in this call; the entry has fault then, and the messages and the limits are as before.
-    /// `NoMemory`: there is no entry, and the messages and the limits are as before; so are all roots and their ledgers, unless a
-    /// delivery or a move has settled all roots that it needs, and the keeper found no memory to put or rename the file.
+    /// `JournalFull` exactly if the history holds as many entries as the setup's journal allows;
+    /// nothing changes then. `Store` only if the store failed in this call; the entry has fault
+    /// then, and the messages and the limits are as before. `NoMemory`: there is no entry, and the
+    /// messages and the limits are as before; so are all roots and their ledgers, unless a delivery
+    /// or a move has settled all roots that it needs, and the keeper found no memory to put or
+    /// rename the file.
     pub fn serve(
         &mut self,
         alloc: Global,
@@ -200,17 +219,24 @@ impl<K: Keeper> AccountState<K> {
         requires bytes { HasBytes call bytes.now }
         ensures opened { Opened self.old self.new }
         // The call comes right after the history, gets its answer, and leads to the history then.
-        ensures serves { Serves self.old.origin caller self.old.history call result self.new.history }
+        ensures serves { Serves self.old.origin caller self.old.history call result
+            self.new.history }
         ensures form { IfOk result (HasForm self.old.store.roots self.old.store.mailboxes call) }
-        ensures ledgers { PerformsLedgers (IsAccount self.old) call result self.old.store self.new.store }
+        ensures ledgers { PerformsLedgers
+            (IsAccount self.old) call result self.old.store self.new.store }
         ensures rows { PerformsRows call bytes.now result self.old.store self.new.store }
-        ensures spared { result ≡ Err StepError.NoMemory → Spares call self.old.store self.new.store }
+        ensures spared { result ≡ Err StepError.NoMemory
+            → Spares call self.old.store self.new.store }
         ensures due { UsesDue result self.old.store self.new.store }
         ensures later { NoneFalls self.old.store self.new.store }
-        ensures cause { result ≡ Err StepError.Store → Rose self.old.store.faults self.new.store.faults }
+        ensures cause { result ≡ Err StepError.Store
+            → Rose self.old.store.faults self.new.store.faults }
         ensures lists { ListsFor call self.old.store.lists self.new.store.lists }
-        ensures full { (limit : ℕ) → (result ≡ Err (StepError.JournalFull limit)) ↔ ((length self.old.history ≡ self.old.origin.journal) × (limit ≡ self.old.origin.journal)) }
-        ensures unchanged { (limit : ℕ) → result ≡ Err (StepError.JournalFull limit) → self.new ≡ self.old }
+        ensures full { (limit : ℕ) → (result ≡ Err (StepError.JournalFull limit))
+            ↔ ((length self.old.history ≡ self.old.origin.journal)
+            × (limit ≡ self.old.origin.journal)) }
+        ensures unchanged { (limit : ℕ) → result ≡ Err (StepError.JournalFull limit)
+            → self.new ≡ self.old }
         ensures order { IsInOrder self.new }
     {
         self.show_in_order();
@@ -258,7 +284,8 @@ impl<K: Keeper> AccountState<K> {
         self.history.len() >= self.journal as usize
     }
 
-    /// Settles the root of this number if it is in doubt, and answers its usage. It is no entry of the history.
+    /// Settles the root of this number if it is in doubt, and answers its usage. It is no entry of
+    /// the history.
     ///
     /// # Errors
     ///
@@ -267,13 +294,19 @@ impl<K: Keeper> AccountState<K> {
         requires { root < length self.old.origin.roots }
         ensures opened { Opened self.old self.new }
         ensures history { self.new.history ≡ self.old.history }
-        ensures usage { IfOk result (λ totals. OfAccount self.old (λ account. totals ≡ usage_at self.old.origin.roots root account)) }
+        ensures usage { IfOk result (λ totals.
+            OfAccount self.old (λ account. totals ≡ usage_at self.old.origin.roots root account)) }
         ensures settled { OnOk result (standing_at self.new.store.standings root ≡ Settled) }
-        ensures settles { SettlesSome (IsAccount self.old) (nat_eq root) self.old.store self.new.store }
+        ensures settles { SettlesSome (IsAccount self.old)
+            (nat_eq root) self.old.store self.new.store }
         ensures stays { IsErr result → LedgersStay self.old.store self.new.store }
-        ensures spared { result ≡ Err StepError.NoMemory → LedgersAndFaultsStay self.old.store self.new.store }
-        ensures due { Due (result ≡ Err StepError.Store) self.old.store.faults self.old.store.append_faults self.new.store.faults self.new.store.append_faults self.old.store.told self.new.store.told }
-        ensures cause { HasCause (result ≡ Err StepError.Store) self.old.store.faults self.new.store.faults }
+        ensures spared { result ≡ Err StepError.NoMemory
+            → LedgersAndFaultsStay self.old.store self.new.store }
+        ensures due { Due (result ≡ Err StepError.Store) self.old.store.faults
+            self.old.store.append_faults self.new.store.faults self.new.store.append_faults
+            self.old.store.told self.new.store.told }
+        ensures cause { HasCause
+            (result ≡ Err StepError.Store) self.old.store.faults self.new.store.faults }
         ensures never_full { (limit : ℕ) → result ≢ Err (StepError.JournalFull limit) }
         ensures order { IsInOrder self.new }
     {

@@ -38,4 +38,17 @@ abbrev pub nowhere : Origin
 nowhere = record { roots = []; journal = 0; epoch = 0; account = None }
 
 abbrev pub nobody : View
-nobody = record { origin = nowhere; limit = 0; number = 0; stage = spent; ticket = 0; seen = []; mine = []; held = 0; own = 0; olds = []; made = 0; pending = false }
+nobody = record {
+  origin = nowhere;
+  limit = 0;
+  number = 0;
+  stage = spent;
+  ticket = 0;
+  seen = [];
+  mine = [];
+  held = 0;
+  own = 0;
+  olds = [];
+  made = 0;
+  pending = false;
+}

@@ -1,5 +1,6 @@
--- The rule of a lock: what holds, between any two steps, of its words, its slot and all views.
--- Word 0 counts the tickets that were drawn, word 1 those that were served, word 2 the entries, and word 3 the passes.
+-- The rule of a lock: what holds, between any two steps, of its words, its slot and all views. Word
+-- 0 counts the tickets that were drawn, word 1 those that were served, word 2 the entries, and word
+-- 3 the passes.
 use Rattle.std.specs.Prelude.{◌≡◌, ◌≢◌, ℕ, ◌+◌, ◌%◌, ◌^◌, ◌<◌, ◌≤◌, Bool, true, false, List, [], ◌∷◌, length, Option, Some, ◌⊎◌}
 use mathlib.Core.Option as maybe
 use mathlib.Core.Option.{some, none}
@@ -64,7 +65,8 @@ InLine served drawn ticket serving = (ticket ≡ served) × (served < drawn)
 InLine served drawn ticket spent = Unit {0}
 
 -- what a pass knows of the one history
-pub record Knows (start : Origin) (log : List Entry) (limit made : ℕ) (pending : Bool) (v : View) : Type 0 where
+pub record Knows (start : Origin) (log : List Entry) (limit made : ℕ) (pending : Bool)
+    (v : View) : Type 0 where
   pub origin : v.origin ≡ start
   pub limited : v.limit ≡ limit
   pub seen : Begins v.seen log
@@ -83,7 +85,8 @@ Fits start log limit made pending v spent = (v.held ≡ 0) × (v.own ≡ 0)
 
 -- two passes have two numbers, and two tickets that are out differ
 abbrev pub Apart : View → View → Type 0
-Apart v w = (IsLive v → IsLive w → v.number ≢ w.number) × (out v.stage ≡ 1 → out w.stage ≡ 1 → v.ticket ≢ w.ticket)
+Apart v w = (IsLive v → IsLive w → v.number ≢ w.number)
+    × (out v.stage ≡ 1 → out w.stage ≡ 1 → v.ticket ≢ w.ticket)
 
 -- it has seen the whole history
 abbrev pub HasSeen : List Entry → View → Type 0
@@ -99,7 +102,8 @@ module _ {A : Type 0} (origin : A → Origin) (history : A → List Entry) where
   -- the value is at home and has the one history, or it is out with the pass that has the turn
   abbrev pub Home : List (maybe.Option (Option A)) → List View → Origin → List Entry → Type 0
   Home homes views start log =
-      ((x : A) × (homes ≡ some (Some x) ∷ []) × (origin x ≡ start) × (history x ≡ log) × ((seat : ℕ) (v : View) → At views seat v → v.stage ≢ serving))
+      ((x : A) × (homes ≡ some (Some x) ∷ []) × (origin x ≡ start) × (history x ≡ log)
+      × ((seat : ℕ) (v : View) → At views seat v → v.stage ≢ serving))
       ⊎ ((homes ≡ none ∷ []) × Exists IsServing views)
 
   pub record Kept (limit : ℕ) (s : State (Option A) View) : Type 0 where
@@ -110,14 +114,16 @@ module _ {A : Type 0} (origin : A → Origin) (history : A → List Entry) where
     pub start : Origin
     pub pending : Bool
     pub words : s.words ≡ (drawn % 2 ^ 64) ∷ (served % 2 ^ 64) ∷ (length log % 2 ^ 64) ∷ made ∷ []
-    -- tickets out: they are those from the one that is served up to the next to be drawn, each with one view
+    -- tickets out: they are those from the one that is served up to the next to be drawn, each with
+    -- one view
     pub in_line : (seat : ℕ) (v : View) → At s.views seat v → InLine served drawn v.ticket v.stage
     pub lined : (t : ℕ) → served ≤ t → t < drawn → Exists (HasTicket t) s.views
     pub tickets : total tickets_of s.views + served ≡ drawn
     -- one served view, and the value at home has the history
     pub home : Home s.homes s.views start log
     -- one history of prefixes: the longest that is seen
-    pub fits : (seat : ℕ) (v : View) → At s.views seat v → Fits start log limit made pending v v.stage
+    pub fits : (seat : ℕ) (v : View) → At s.views seat v
+        → Fits start log limit made pending v v.stage
     pub longest : Exists (HasSeen log) s.views
     -- view and caller numbers
     pub apart : (i j : ℕ) (v w : View) → At s.views i v → At s.views j w → i ≢ j → Apart v w

@@ -15,7 +15,8 @@ IsNew v = (v.mine ≡ []) × (v.held ≡ 1) × (v.own ≡ 0) × (v.olds ≡ [])
 
 -- all but what was seen stays
 abbrev pub IsSame : View → View → Type 0
-IsSame v w = (w.origin ≡ v.origin) × (w.number ≡ v.number) × (w.mine ≡ v.mine) × (w.held ≡ v.held) × (w.own ≡ v.own) × (w.olds ≡ v.olds) × (w.made ≡ v.made)
+IsSame v w = (w.origin ≡ v.origin) × (w.number ≡ v.number) × (w.mine ≡ v.mine) × (w.held ≡ v.held)
+    × (w.own ≡ v.own) × (w.olds ≡ v.olds) × (w.made ≡ v.made)
 
 module _ {A : Type 0} where
   -- how many passes of the lock may be made
@@ -24,4 +25,6 @@ module _ {A : Type 0} where
 
   -- the pass is of this lock
   abbrev pub IsOf : Lock A → Pass → Type 0
-  IsOf lock pass = (pass.badge.table_id ≡ lock.table.shared.table_id) × (pass.badge.views ≡ view pass ∷ []) × ((view pass).stage ≡ resting) × ((view pass).limit ≡ lock.callers) × ((view pass).made ≤ lock.callers) × ((view pass).pending ≡ false)
+  IsOf lock pass = (pass.badge.table_id ≡ lock.table.shared.table_id) × (pass.badge.views
+      ≡ view pass ∷ []) × ((view pass).stage ≡ resting) × ((view pass).limit ≡ lock.callers)
+      × ((view pass).made ≤ lock.callers) × ((view pass).pending ≡ false)

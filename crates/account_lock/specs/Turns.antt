@@ -25,5 +25,7 @@ module _ {A : Type 0} where
 
   -- it is a turn of this lock
   abbrev pub IsTurnOf : Lock A → Turn A → Type 0
-  IsTurnOf lock turn = (turn.chair.seat.table_id ≡ lock.table.shared.table_id) × (turn.chair.seat.me.1 ≡ (0, None) ∷ []) × ((view_in turn).stage ≡ serving) × ((view_in turn).limit ≡ lock.callers)
+  IsTurnOf lock turn = (turn.chair.seat.table_id ≡ lock.table.shared.table_id)
+      × (turn.chair.seat.me.1 ≡ (0, None) ∷ []) × ((view_in turn).stage ≡ serving)
+      × ((view_in turn).limit ≡ lock.callers)
       × ((view_in turn).made ≤ lock.callers) × ((view_in turn).pending ≡ false)

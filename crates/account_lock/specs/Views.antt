@@ -6,7 +6,20 @@ use Rattle.account_lock.specs.Known.{View, resting, waiting, serving}
 
 -- that of the first pass, where so many passes may be made
 abbrev pub first_view : Origin → ℕ → View
-first_view origin limit = record { origin = origin; limit = limit; number = 0; stage = resting; ticket = 0; seen = []; mine = []; held = 1; own = 0; olds = []; made = 1; pending = false }
+first_view origin limit = record {
+  origin = origin;
+  limit = limit;
+  number = 0;
+  stage = resting;
+  ticket = 0;
+  seen = [];
+  mine = [];
+  held = 1;
+  own = 0;
+  olds = [];
+  made = 1;
+  pending = false;
+}
 
 abbrev pub with_ticket : View → ℕ → View
 with_ticket v t = record v { stage = waiting; ticket = t }
@@ -20,7 +33,11 @@ at_rest v = record v { stage = resting }
 
 -- it has made this entry
 abbrev pub with_entry : View → Entry → View
-with_entry v entry = record v { seen = v.seen ++ entry ∷ []; mine = v.mine ++ entry ∷ []; own = v.own + 1 }
+with_entry v entry = record v {
+  seen = v.seen ++ entry ∷ [];
+  mine = v.mine ++ entry ∷ [];
+  own = v.own + 1;
+}
 
 -- the first pass is making one
 abbrev pub making : View → View
@@ -28,7 +45,20 @@ making v = record v { pending = true }
 
 -- the pass that is made
 abbrev pub newcomer : View → View
-newcomer v = record { origin = v.origin; limit = v.limit; number = v.made; stage = resting; ticket = 0; seen = v.seen; mine = []; held = 1; own = 0; olds = []; made = 0; pending = false }
+newcomer v = record {
+  origin = v.origin;
+  limit = v.limit;
+  number = v.made;
+  stage = resting;
+  ticket = 0;
+  seen = v.seen;
+  mine = [];
+  held = 1;
+  own = 0;
+  olds = [];
+  made = 0;
+  pending = false;
+}
 
 -- the first pass has made one
 abbrev pub having_made : View → View
@@ -39,4 +69,9 @@ longer xs ys = if ltb (length xs) (length ys) then ys else xs
 
 -- v took w in
 abbrev pub joined : View → View → View
-joined v w = record v { seen = longer v.seen w.seen; held = v.held + w.held; own = v.own + w.own; olds = (v.olds ++ v.seen ∷ w.seen ∷ []) ++ w.olds }
+joined v w = record v {
+  seen = longer v.seen w.seen;
+  held = v.held + w.held;
+  own = v.own + w.own;
+  olds = (v.olds ++ v.seen ∷ w.seen ∷ []) ++ w.olds;
+}

@@ -16,7 +16,8 @@ pub struct Full {
     pub limit: u32,
 }
 
-/// A lock that was not closed: the pass stands for fewer passes than were made. The lock and the pass are handed back.
+/// A lock that was not closed: the pass stands for fewer passes than were made. The lock and the
+/// pass are handed back.
 #[derive(Drop)]
 pub struct CloseFault<V: Booked> {
     pub lock: Lock<V>,

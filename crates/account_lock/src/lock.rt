@@ -13,8 +13,8 @@ use std::mem;
 use std::snapshot::Snapshot;
 use std::sync::Wait;
 
-/// A value under a lock that its passes take in turn, in the order in which they ask. The value stands for a history, and
-/// all passes together for all of its entries.
+/// A value under a lock that its passes take in turn, in the order in which they ask. The value
+/// stands for a history, and all passes together for all of its entries.
 #[derive(Drop)]
 pub struct Lock<V: Booked> {
     pub(crate) table: Table<Option<V>, View, (Snapshot<V>, u32), Order, Global>,
@@ -30,7 +30,8 @@ impl<V: Booked> Lock<V> {
     ghost use Rattle.account_lock.specs.Passes.{view, IsNew, IsSame, limit_of, IsOf};
     ghost use Rattle.account_lock.specs.Turns as turns;
 
-    /// A lock over a value whose history has no entry, of which at most `callers` passes may be made, and its first pass.
+    /// A lock over a value whose history has no entry, of which at most `callers` passes may be
+    /// made, and its first pass.
     ///
     /// # Errors
     ///
@@ -39,8 +40,10 @@ impl<V: Booked> Lock<V> {
         requires callers { 0 < callers }
         requires history { V.history value ≡ [] }
         ensures made { IfOk result (λ made. (limit_of made.0 ≡ callers) × IsOf made.0 made.1) }
-        ensures first { IfOk result (λ made. ((view made.1).number ≡ 0) × ((view made.1).made ≡ 1) × IsNew (view made.1)) }
-        ensures seen { IfOk result (λ made. ((view made.1).seen ≡ []) × ((view made.1).origin ≡ V.origin value)) }
+        ensures first { IfOk result (λ made. ((view made.1).number ≡ 0) × ((view made.1).made ≡ 1)
+            × IsNew (view made.1)) }
+        ensures seen { IfOk result (λ made. ((view made.1).seen ≡ [])
+            × ((view made.1).origin ≡ V.origin value)) }
         ensures refused { IfErr result (λ fault. fault.value ≡ value) }
     {
         let about = (Snapshot::of(&value), callers);
@@ -65,8 +68,10 @@ impl<V: Booked> Lock<V> {
         ensures same { IsSame (view pass.old) (turns.view_in result) }
         ensures origin { V.origin (turns.value_in result) ≡ (view pass.old).origin }
         ensures seen { (turns.view_in result).seen ≡ V.history (turns.value_in result) }
-        ensures before { Begins (view pass.old).seen (V.history (turns.value_in result)) × EachBegins (view pass.old).olds (V.history (turns.value_in result)) }
-        ensures mine { calls_by (view pass.old).number (V.history (turns.value_in result)) ≡ (view pass.old).mine }
+        ensures before { Begins (view pass.old).seen (V.history (turns.value_in result))
+            × EachBegins (view pass.old).olds (V.history (turns.value_in result)) }
+        ensures mine { calls_by (view pass.old).number (V.history (turns.value_in result))
+            ≡ (view pass.old).mine }
     {
         let chair = mem::replace(pass, Pass::blank()).sit();
         let (chair, value) = self.take_turn(rt, chair);
@@ -87,9 +92,12 @@ impl<V: Booked> Lock<V> {
         requires lock { IsOf self.now first.old }
         requires first { (view first.old).number ≡ 0 }
         ensures more_callers { IfOk result (λ pass. (view first.old).made < limit_of self.now) }
-        ensures made { IfOk result (λ pass. IsOf self.now pass × (view pass ≡ newcomer (view first.old))) }
-        ensures first { IfOk result (λ pass. IsOf self.now first.new × (view first.new ≡ having_made (view first.old))) }
-        ensures full { IfErr result (λ full. ((view first.old).made ≡ limit_of self.now) × (full.limit ≡ limit_of self.now) × (first.new ≡ first.old)) }
+        ensures made { IfOk result (λ pass. IsOf self.now pass
+            × (view pass ≡ newcomer (view first.old))) }
+        ensures first { IfOk result (λ pass. IsOf self.now first.new
+            × (view first.new ≡ having_made (view first.old))) }
+        ensures full { IfErr result (λ full. ((view first.old).made ≡ limit_of self.now)
+            × (full.limit ≡ limit_of self.now) × (first.new ≡ first.old)) }
     {
         if first.made() == self.callers {
             return Err(Full {
@@ -122,10 +130,15 @@ impl<V: Booked> Lock<V> {
         requires lock { IsOf self pass }
         requires first { (view pass).number ≡ 0 }
         ensures all { IfOk result (λ value. (view pass).held ≡ (view pass).made) }
-        ensures whole { IfOk result (λ value. (V.origin value ≡ (view pass).origin) × (length (V.history value) ≡ (view pass).own) × CallersBelow (view pass).made (V.history value)) }
-        ensures before { IfOk result (λ value. Begins (view pass).seen (V.history value) × EachBegins (view pass).olds (V.history value)) }
+        ensures whole { IfOk result (λ value. (V.origin value ≡ (view pass).origin)
+            × (length (V.history value) ≡ (view pass).own)
+            × CallersBelow (view pass).made (V.history value)) }
+        ensures before { IfOk result (λ value. Begins (view pass).seen (V.history value)
+            × EachBegins (view pass).olds (V.history value)) }
         ensures mine { IfOk result (λ value. calls_by 0 (V.history value) ≡ (view pass).mine) }
-        ensures refused { IfErr result (λ fault. ((view pass).held < (view pass).made) × (fault.held ≡ (view pass).held) × (fault.made ≡ (view pass).made) × (fault.pass ≡ pass) × (fault.lock ≡ self)) }
+        ensures refused { IfErr result (λ fault. ((view pass).held < (view pass).made)
+            × (fault.held ≡ (view pass).held) × (fault.made ≡ (view pass).made)
+            × (fault.pass ≡ pass) × (fault.lock ≡ self)) }
     {
         let held = pass.held();
         let made = pass.made();

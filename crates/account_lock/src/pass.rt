@@ -4,8 +4,8 @@ ghost use Rattle.account_lock.specs.Ties.{head_view, IsTied, own_seen};
 use crate::view::View;
 use atomic_table::{Badge, Seat};
 
-/// A caller's part in the one history of a lock. It knows the entries that it has seen and those that it made, and it
-/// stands for itself and for the passes that were joined into it.
+/// A caller's part in the one history of a lock. It knows the entries that it has seen and those
+/// that it made, and it stands for itself and for the passes that were joined into it.
 #[derive(Drop)]
 pub struct Pass {
     number: u32,
@@ -40,7 +40,8 @@ impl Pass {
         self.held
     }
 
-    /// How many passes of its lock were made, itself included. Only the first pass, number 0, knows.
+    /// How many passes of its lock were made, itself included. Only the first pass, number 0,
+    /// knows.
     pub fn made(&self) -> u32
         requires { (view self.now).number ≡ 0 }
         ensures { result ≡ (view self.now).made }
@@ -75,7 +76,8 @@ impl Pass {
 
     pub(crate) fn sit<V>(self) -> Chair<V>
         requires { self.badge.views ≡ view self ∷ [] }
-        ensures { (result.seat.table_id ≡ self.badge.table_id) × (result.seat.me ≡ (view self, [])) }
+        ensures { (result.seat.table_id ≡ self.badge.table_id)
+            × (result.seat.me ≡ (view self, [])) }
     {
         let Pass {
             number,
@@ -97,7 +99,8 @@ impl<V> Chair<V> {
 
     pub(crate) fn rise(self) -> Pass
         requires { self.seat.me.1 ≡ [] }
-        ensures { (result.badge.table_id ≡ self.seat.table_id) × (result.badge.views ≡ self.seat.me.0 ∷ []) }
+        ensures { (result.badge.table_id ≡ self.seat.table_id)
+            × (result.badge.views ≡ self.seat.me.0 ∷ []) }
     {
         let Chair {
             number,

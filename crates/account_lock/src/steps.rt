@@ -16,8 +16,8 @@ use atomic_table::Seat;
 use std::sync::Wait;
 use std::thread;
 
-/// The words of a lock's table: how many tickets were drawn, the ticket that is served, how many entries there are, and
-/// how many passes were made.
+/// The words of a lock's table: how many tickets were drawn, the ticket that is served, how many
+/// entries there are, and how many passes were made.
 const TICKET: usize = 0;
 
 const SERVING: usize = 1;
@@ -35,8 +35,10 @@ impl<V: Booked> Lock<V> {
         requires lock { chair.seat.table_id ≡ self.now.table.shared.table_id }
         requires rests { (chair.seat.me.0.stage ≡ resting) × (chair.seat.me.1 ≡ []) }
         ensures lock { result.0.seat.table_id ≡ chair.seat.table_id }
-        ensures turn { (t : ℕ) × (result.0.seat.me ≡ (with_turn (with_ticket chair.seat.me.0 t) (V.history result.1), (0, None) ∷ [])) }
-        ensures value { (V.origin result.1 ≡ chair.seat.me.0.origin) × Extends chair.seat.me.0 (V.history result.1) }
+        ensures turn { (t : ℕ) × (result.0.seat.me
+            ≡ (with_turn (with_ticket chair.seat.me.0 t) (V.history result.1), (0, None) ∷ [])) }
+        ensures value { (V.origin result.1 ≡ chair.seat.me.0.origin)
+            × Extends chair.seat.me.0 (V.history result.1) }
     {
         let Chair {
             number,
@@ -68,7 +70,8 @@ impl<V: Booked> Lock<V> {
         requires waits { (seat.me.0.stage ≡ waiting) × (seat.me.1 ≡ []) }
         requires ticket { ticket ≡ seat.me.0.ticket % 2 ^ 64 }
         ensures lock { result.table_id ≡ seat.table_id }
-        ensures turn { (x : V) × (result.me ≡ (with_turn seat.me.0 (V.history x), (0, Some x) ∷ [])) × (V.origin x ≡ seat.me.0.origin) × Extends seat.me.0 (V.history x) }
+        ensures turn { (x : V) × (result.me ≡ (with_turn seat.me.0 (V.history x), (0, Some x) ∷ []))
+            × (V.origin x ≡ seat.me.0.origin) × Extends seat.me.0 (V.history x) }
     {
         let mut yields = 0;
         for _ in rt.forever() {
@@ -81,7 +84,8 @@ impl<V: Booked> Lock<V> {
         unreachable!()
     }
 
-    /// Yields, the first times, and from then on sleeps until another ticket than this one is served.
+    /// Yields, the first times, and from then on sleeps until another ticket than this one is
+    /// served.
     fn pause<R: Wait>(&self, rt: &R, serving: u64, yields: u32) -> u32 {
         if yields < YIELDS {
             thread::yield_now();
@@ -95,10 +99,13 @@ impl<V: Booked> Lock<V> {
     /// Makes a pass, which the first pass counts.
     pub(crate) fn make_pass(&self, chair: Chair<V>) -> (Chair<V>, Pass)
         requires lock { chair.seat.table_id ≡ self.now.table.shared.table_id }
-        requires rests { (chair.seat.me.0.stage ≡ resting) × (chair.seat.me.1 ≡ []) × (chair.seat.me.0.pending ≡ false) }
+        requires rests { (chair.seat.me.0.stage ≡ resting) × (chair.seat.me.1 ≡ [])
+            × (chair.seat.me.0.pending ≡ false) }
         requires first { chair.seat.me.0.number ≡ 0 }
-        requires more_callers { (chair.seat.me.0.limit ≡ self.now.callers) × (chair.seat.me.0.made < self.now.callers) }
-        ensures lock { (result.0.seat.table_id ≡ chair.seat.table_id) × (result.1.badge.table_id ≡ chair.seat.table_id) }
+        requires more_callers { (chair.seat.me.0.limit ≡ self.now.callers)
+            × (chair.seat.me.0.made < self.now.callers) }
+        ensures lock { (result.0.seat.table_id ≡ chair.seat.table_id)
+            × (result.1.badge.table_id ≡ chair.seat.table_id) }
         ensures made { result.0.seat.me ≡ (having_made chair.seat.me.0, []) }
         ensures pass { result.1.badge.views ≡ newcomer chair.seat.me.0 ∷ [] }
     {
@@ -129,9 +136,11 @@ impl<V: Booked> Lock<V> {
 
     /// Joins the other into this one, which then stands for both.
     pub(crate) fn join_chairs(&self, chair: Chair<V>, other: Chair<V>) -> Chair<V>
-        requires lock { (chair.seat.table_id ≡ self.now.table.shared.table_id) × (other.seat.table_id ≡ self.now.table.shared.table_id) }
+        requires lock { (chair.seat.table_id ≡ self.now.table.shared.table_id)
+            × (other.seat.table_id ≡ self.now.table.shared.table_id) }
         requires rests { (chair.seat.me.0.stage ≡ resting) × (chair.seat.me.1 ≡ []) }
-        requires other { (other.seat.me.0.stage ≡ resting) × (other.seat.me.1 ≡ []) × (other.seat.me.0.number ≢ 0) }
+        requires other { (other.seat.me.0.stage ≡ resting) × (other.seat.me.1 ≡ [])
+            × (other.seat.me.0.number ≢ 0) }
         ensures lock { result.seat.table_id ≡ chair.seat.table_id }
         ensures joined { result.seat.me ≡ (joined chair.seat.me.0 other.seat.me.0, []) }
     {
@@ -180,13 +189,17 @@ impl<V: Booked> Lock<V> {
         }
     }
 
-    /// Counts the entry by which the value in the slot has grown: from now on it has its place in the history.
+    /// Counts the entry by which the value in the slot has grown: from now on it has its place in
+    /// the history.
     pub(crate) fn count(&self, chair: Chair<V>) -> Chair<V>
         requires lock { chair.seat.table_id ≡ self.now.table.shared.table_id }
         requires turn { chair.seat.me.0.stage ≡ serving }
-        requires entry { (x : V) × (e : Entry) × (chair.seat.me.1 ≡ (0, Some x) ∷ []) × (V.history x ≡ chair.seat.me.0.seen ++ e ∷ []) × (e.caller ≡ chair.seat.me.0.number) }
+        requires entry { (x : V) × (e : Entry) × (chair.seat.me.1 ≡ (0, Some x) ∷ [])
+            × (V.history x ≡ chair.seat.me.0.seen ++ e ∷ []) × (e.caller ≡ chair.seat.me.0.number) }
         ensures lock { result.seat.table_id ≡ chair.seat.table_id }
-        ensures entry { (x : V) × (e : Entry) × (chair.seat.me.1 ≡ (0, Some x) ∷ []) × (V.history x ≡ chair.seat.me.0.seen ++ e ∷ []) × (e.caller ≡ chair.seat.me.0.number) × (result.seat.me ≡ (with_entry chair.seat.me.0 e, chair.seat.me.1)) }
+        ensures entry { (x : V) × (e : Entry) × (chair.seat.me.1 ≡ (0, Some x) ∷ [])
+            × (V.history x ≡ chair.seat.me.0.seen ++ e ∷ []) × (e.caller ≡ chair.seat.me.0.number)
+            × (result.seat.me ≡ (with_entry chair.seat.me.0 e, chair.seat.me.1)) }
     {
         let Chair {
             number,
@@ -207,7 +220,8 @@ impl<V: Booked> Lock<V> {
     pub(crate) fn serve_next(&self, chair: Chair<V>) -> Chair<V>
         requires lock { chair.seat.table_id ≡ self.now.table.shared.table_id }
         requires turn { chair.seat.me.0.stage ≡ serving }
-        requires slot { (x : V) × (chair.seat.me.1 ≡ (0, Some x) ∷ []) × (V.history x ≡ chair.seat.me.0.seen) × (V.origin x ≡ chair.seat.me.0.origin) }
+        requires slot { (x : V) × (chair.seat.me.1 ≡ (0, Some x) ∷ [])
+            × (V.history x ≡ chair.seat.me.0.seen) × (V.origin x ≡ chair.seat.me.0.origin) }
         ensures lock { result.seat.table_id ≡ chair.seat.table_id }
         ensures rests { result.seat.me ≡ (at_rest chair.seat.me.0, []) }
     {

@@ -7,8 +7,8 @@ use crate::lock::Lock;
 use crate::pass::{Chair, Pass};
 use account_core::Booked;
 
-/// The turn of a pass. While it lasts no other pass has the value. It must be ended by `commit` or by `leave`: it can't be
-/// let go.
+/// The turn of a pass. While it lasts no other pass has the value. It must be ended by `commit` or
+/// by `leave`: it can't be let go.
 pub struct Turn<'a, V: Booked> {
     pub(crate) pass: &'a mut Pass,
     pub(crate) lock: &'a Lock<V>,
@@ -24,7 +24,8 @@ impl<V: Booked> Turn<'_, V> {
 
     /// The value, for as long as the turn lasts.
     pub fn state(&mut self) -> &mut V
-        ensures* writes_back { sem 𝓛 (Lends (the_row (record { mir = named 1; lft = [] }) V.row V.Booked) V.row self.entry result (with_value self.old)) }
+        ensures* writes_back { sem 𝓛 (Lends (the_row (record { mir = named 1; lft = [] }) V.row
+            V.Booked) V.row self.entry result (with_value self.old)) }
         ensures value { result.now ≡ value_in self.old }
     {
         &mut self.value
@@ -40,13 +41,20 @@ impl<V: Booked> Turn<'_, V> {
     /// Ends the turn, in which one entry with the pass's number was added to the value's history.
     pub fn commit(self)
         requires turn { IsTurnOf (lock_of self) self }
-        requires entry { (e : Entry) × (e.caller ≡ (view_in self).number) × (V.history (value_in self) ≡ (view_in self).seen ++ e ∷ []) }
+        requires entry { (e : Entry) × (e.caller ≡ (view_in self).number)
+            × (V.history (value_in self) ≡ (view_in self).seen ++ e ∷ []) }
         requires origin { V.origin (value_in self) ≡ (view_in self).origin }
         ensures pass { IsOf (lock_of self.entry) self.exit.0.now }
-        ensures entry { (e : Entry) × (e.caller ≡ (view_in self.entry).number) × (V.history (value_in self.entry) ≡ (view_in self.entry).seen ++ e ∷ []) × ((view self.exit.0.now).mine ≡ (view_in self.entry).mine ++ e ∷ []) }
+        ensures entry { (e : Entry) × (e.caller ≡ (view_in self.entry).number)
+            × (V.history (value_in self.entry) ≡ (view_in self.entry).seen ++ e ∷ [])
+            × ((view self.exit.0.now).mine ≡ (view_in self.entry).mine ++ e ∷ []) }
         ensures seen { (view self.exit.0.now).seen ≡ V.history (value_in self.entry) }
         ensures own { (view self.exit.0.now).own ≡ (view_in self.entry).own + 1 }
-        ensures same { ((view self.exit.0.now).origin ≡ (view_in self.entry).origin) × ((view self.exit.0.now).number ≡ (view_in self.entry).number) × ((view self.exit.0.now).held ≡ (view_in self.entry).held) × ((view self.exit.0.now).olds ≡ (view_in self.entry).olds) × ((view self.exit.0.now).made ≡ (view_in self.entry).made) }
+        ensures same { ((view self.exit.0.now).origin ≡ (view_in self.entry).origin)
+            × ((view self.exit.0.now).number ≡ (view_in self.entry).number)
+            × ((view self.exit.0.now).held ≡ (view_in self.entry).held)
+            × ((view self.exit.0.now).olds ≡ (view_in self.entry).olds)
+            × ((view self.exit.0.now).made ≡ (view_in self.entry).made) }
     {
         let Turn {
             pass,
@@ -61,7 +69,8 @@ impl<V: Booked> Turn<'_, V> {
     /// Ends the turn, in which no entry was added to the value's history.
     pub fn leave(self)
         requires turn { IsTurnOf (lock_of self) self }
-        requires history { (V.history (value_in self) ≡ (view_in self).seen) × (V.origin (value_in self) ≡ (view_in self).origin) }
+        requires history { (V.history (value_in self) ≡ (view_in self).seen)
+            × (V.origin (value_in self) ≡ (view_in self).origin) }
         ensures pass { IsOf (lock_of self.entry) self.exit.0.now }
         ensures same { IsSame (view_in self.entry) (view self.exit.0.now) }
         ensures seen { (view self.exit.0.now).seen ≡ (view_in self.entry).seen }

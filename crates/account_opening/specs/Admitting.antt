@@ -28,11 +28,15 @@ pub record CanOpen (setup : Setup) (epoch : ℕ) (files : Files) : Type 0 where
 abbrev pub HasReason : Setup → ℕ → OpenError → Files → Type 0
 HasReason setup epoch Store files = Unit {0}
 HasReason setup epoch open_no_memory files = Unit {0}
-HasReason setup epoch (TooManyMessages found) files = (1048576 < how_many_files (listings setup.mailboxes files.rows)) × (found ≡ min (how_many_files (listings setup.mailboxes files.rows)) (2 ^ 64 - 1))
+HasReason setup epoch (TooManyMessages found) files =
+    (1048576 < how_many_files (listings setup.mailboxes files.rows))
+    × (found ≡ min (how_many_files (listings setup.mailboxes files.rows)) (2 ^ 64 - 1))
 HasReason setup epoch (DoubleName name) files =
-    (how_many_files (listings setup.mailboxes files.rows) ≤ 1048576) × (Some name ≡ option_map shown (first_double (listings setup.mailboxes files.rows)))
+    (how_many_files (listings setup.mailboxes files.rows) ≤ 1048576)
+    × (Some name ≡ option_map shown (first_double (listings setup.mailboxes files.rows)))
 HasReason setup epoch (EpochUsed name) files =
-    (how_many_files (listings setup.mailboxes files.rows) ≤ 1048576) × (first_double (listings setup.mailboxes files.rows) ≡ None)
+    (how_many_files (listings setup.mailboxes files.rows) ≤ 1048576)
+    × (first_double (listings setup.mailboxes files.rows) ≡ None)
     × (Some name ≡ option_map shown (first_used epoch (listings setup.mailboxes files.rows)))
 
 -- the files stay, and so they may be opened, or are refused for this reason
@@ -42,14 +46,18 @@ MayOpen setup epoch files files' = (files' ≡ files) × CanOpen setup epoch fil
 abbrev pub IsRefused : Setup → ℕ → OpenError → Files → Files → Type 0
 IsRefused setup epoch cause files files' = (files' ≡ files) × HasReason setup epoch cause files
 
--- the files stay, and these are the account's limits where nothing stands against the files; or there is a reason
-abbrev pub Admits : {A : Type 0} → Setup → ℕ → Result (Vec LimitNumbers A) OpenError → Told → Told → Type 0
-Admits setup epoch (Ok limits) told told' = (limits.items ≡ opening_limits told.files setup.limits) × (told'.files ≡ told.files) × CanOpen setup epoch told.files
+-- the files stay, and these are the account's limits where nothing stands against the files; or
+-- there is a reason
+abbrev pub Admits : {A : Type 0} → Setup → ℕ → Result (Vec LimitNumbers A) OpenError → Told → Told
+    → Type 0
+Admits setup epoch (Ok limits) told told' = (limits.items ≡ opening_limits told.files setup.limits)
+    × (told'.files ≡ told.files) × CanOpen setup epoch told.files
 Admits setup epoch (Err cause) told told' = IsRefused setup epoch cause told.files told'.files
 
 -- the files stay, and a search that is made tells what these mailboxes come to
 abbrev pub FindsSome : ℕ → List (List ℕ) → Findings → Told → Told → Type 0
-FindsSome epoch mailboxes found told told' = (found ≡ findings_of epoch (listings mailboxes told.files.rows)) × (told'.files ≡ told.files)
+FindsSome epoch mailboxes found told told' =
+    (found ≡ findings_of epoch (listings mailboxes told.files.rows)) × (told'.files ≡ told.files)
 
 abbrev pub Finds : {E : Type 0} → ℕ → List (List ℕ) → Result Findings E → Told → Told → Type 0
 Finds epoch mailboxes (Ok found) told told' = FindsSome epoch mailboxes found told told'
@@ -62,4 +70,5 @@ IsJudged found (Err Store) = ⊥
 IsJudged found (Err open_no_memory) = ⊥
 IsJudged found (Err (TooManyMessages files)) = (1048576 < found.files) × (files ≡ found.files)
 IsJudged found (Err (DoubleName name)) = (found.files ≤ 1048576) × (Some name ≡ found.double)
-IsJudged found (Err (EpochUsed name)) = (found.files ≤ 1048576) × (found.double ≡ None) × (Some name ≡ found.used)
+IsJudged found (Err (EpochUsed name)) = (found.files ≤ 1048576) × (found.double ≡ None)
+    × (Some name ≡ found.used)

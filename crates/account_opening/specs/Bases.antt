@@ -1,4 +1,5 @@
--- The bases of the files of an account: one that stands twice in its mailbox, and one that a delivery could have.
+-- The bases of the files of an account: one that stands twice in its mailbox, and one that a
+-- delivery could have.
 use Rattle.std.specs.Prelude.{◌≡◌, ◌≤◌, ◌+◌, ◌-◌, ◌^◌, ℕ, zero, suc, min, Bool, ◌&&◌, nat_lt, nat_eq, List, [], ◌∷◌, ◌++◌, length, map, find, take, count_by, bytes_eq, codes, decimal, Option, Some, None, sum_by}
 use Rattle.std.specs.List.{starts_with, ends_with}
 use Rattle.std.specs.Option.{option_map, option_or}
@@ -52,7 +53,8 @@ first_double (files ∷ all) = option_or (double_in files) (first_double all)
 
 -- a delivery of this epoch could have the base
 abbrev pub is_of_epoch : ℕ → List ℕ → Bool
-is_of_epoch epoch base = starts_with nat_eq base (decimal epoch ++ codes ".") && ends_with nat_eq base (codes ".quotad")
+is_of_epoch epoch base =
+    starts_with nat_eq base (decimal epoch ++ codes ".") && ends_with nat_eq base (codes ".quotad")
 
 abbrev pub used_in : ℕ → List FileRow → Option (List ℕ)
 used_in epoch files = option_map base_in (find (λ file. is_of_epoch epoch (base_in file)) files)

@@ -13,7 +13,8 @@ limits_of_ledger None own = own
 limits_of_ledger (Some bytes) own = unwrap_or (definition_of bytes) own
 
 abbrev pub limits_below : ℕ → Files → List LimitNumbers → List LimitNumbers
-limits_below count files limits = map (λ root. limits_of_ledger (ledger_at files root) (limits_at limits root)) (range_with_len 0 count)
+limits_below count files limits = map (λ root.
+    limits_of_ledger (ledger_at files root) (limits_at limits root)) (range_with_len 0 count)
 
 -- of each root, by its ledger
 abbrev pub opening_limits : Files → List LimitNumbers → List LimitNumbers
@@ -21,8 +22,10 @@ opening_limits files limits = limits_below (length limits) files limits
 
 -- the files stay, and these are the limits of so many roots
 abbrev pub ReadsSome : ℕ → List LimitNumbers → List LimitNumbers → Told → Told → Type 0
-ReadsSome count own limits told told' = (limits ≡ limits_below count told.files own) × (told'.files ≡ told.files)
+ReadsSome count own limits told told' = (limits ≡ limits_below count told.files own)
+    × (told'.files ≡ told.files)
 
-abbrev pub ReadsLimits : {A E : Type 0} → List LimitNumbers → Result (Vec LimitNumbers A) E → Told → Told → Type 0
+abbrev pub ReadsLimits : {A E : Type 0} → List LimitNumbers → Result (Vec LimitNumbers A) E → Told
+    → Told → Type 0
 ReadsLimits own (Ok limits) told told' = ReadsSome (length own) own limits.items told told'
 ReadsLimits own (Err e) told told' = told'.files ≡ told.files

@@ -36,16 +36,16 @@ fn judge(found: Findings) -> Result<(), OpenError>
     Ok(())
 }
 
-/// The limits of the account's roots, where nothing stands against its files: those that a root's ledger defines in its first
-/// line, or else those of the setup. No file is changed.
+/// The limits of the account's roots, where nothing stands against its files: those that a root's
+/// ledger defines in its first line, or else those of the setup. No file is changed.
 ///
 /// All mailboxes are listed, then the files are looked at, and then the ledgers are read.
 ///
 /// # Errors
 ///
-/// `Store` where the store failed; `TooManyMessages` above 1048576 files in the mailboxes; `DoubleName` at the first file
-/// whose base another file of its mailbox has; `EpochUsed` at the first whose base begins with the epoch and a dot and ends
-/// with `.quotad`; and `NoMemory`.
+/// `Store` where the store failed; `TooManyMessages` above 1048576 files in the mailboxes;
+/// `DoubleName` at the first file whose base another file of its mailbox has; `EpochUsed` at the
+/// first whose base begins with the epoch and a dot and ends with `.quotad`; and `NoMemory`.
 pub fn admit_files<K: Keeper>(
     alloc: Global,
     keeper: &mut K,
@@ -53,10 +53,14 @@ pub fn admit_files<K: Keeper>(
     epoch: u64,
 ) -> Result<Vec<Limits>, OpenError>
     requires { length setup.now.limits ≤ 4 }
-    ensures files { Changes (Admits setup.now epoch result) (K.told keeper.old) (K.told keeper.new) }
+    ensures files { Changes (Admits setup.now epoch result) (K.told keeper.old)
+        (K.told keeper.new) }
     ensures count { IfOk result (λ limits. length limits.items ≡ length setup.now.limits) }
-    ensures cause { HasCause (result ≡ Err OpenError.Store) (K.faults keeper.old) (K.faults keeper.new) }
-    ensures due { Changes (Spends (result ≡ Err OpenError.Store) (K.faults keeper.old + K.append_faults keeper.old) (K.faults keeper.new + K.append_faults keeper.new)) (K.told keeper.old) (K.told keeper.new) }
+    ensures cause { HasCause (result ≡ Err OpenError.Store) (K.faults keeper.old)
+        (K.faults keeper.new) }
+    ensures due { Changes (Spends (result ≡ Err OpenError.Store) (K.faults keeper.old
+        + K.append_faults keeper.old) (K.faults keeper.new + K.append_faults keeper.new))
+        (K.told keeper.old) (K.told keeper.new) }
     ensures appends { K.append_faults keeper.new ≡ K.append_faults keeper.old }
 {
     let found = find(alloc, keeper, setup.mailboxes.as_slice(), epoch)?;

@@ -18,7 +18,8 @@ fn base_in(file: &FileRow) -> &[u8]
 /// Notes one more file of this base, up to the second, and tells whether one was noted before.
 fn count_base<'a>(notes: &mut BTreeMap<&'a [u8], u8>, base: &'a [u8]) -> Result<bool, AllocError>
     ensures again { IfOk result (λ again. again ≡ is_some (noted notes.old base.now)) }
-    ensures notes { IfOk result (λ again. (other : List ℕ) → noted notes.new other ≡ (if bytes_eq base.now other then Some (if again then 2 else 1) else noted notes.old other)) }
+    ensures notes { IfOk result (λ again. (other : List ℕ) → noted notes.new other ≡ (if bytes_eq
+        base.now other then Some (if again then 2 else 1) else noted notes.old other)) }
 {
     if notes.insert(base, 1)?.is_none() {
         return Ok(false);
@@ -27,12 +28,14 @@ fn count_base<'a>(notes: &mut BTreeMap<&'a [u8], u8>, base: &'a [u8]) -> Result<
     Ok(true)
 }
 
-/// Notes of each base whether it stands once, or twice and more, in the files; `None` where none stands twice.
+/// Notes of each base whether it stands once, or twice and more, in the files; `None` where none
+/// stands twice.
 fn repeats_in<'a>(
     alloc: Global,
     files: &'a [FileRow],
 ) -> Result<Option<BTreeMap<&'a [u8], u8>>, AllocError>
-    ensures { IfOk result (λ repeats. MatchOption repeats (AreApart files.now) (λ notes. AreCounted notes files.now)) }
+    ensures { IfOk result (λ repeats.
+        MatchOption repeats (AreApart files.now) (λ notes. AreCounted notes files.now)) }
 {
     let mut notes = BTreeMap::new(alloc);
     let mut repeats = false;
@@ -69,7 +72,8 @@ fn is_repeated(notes: &BTreeMap<&[u8], u8>, base: &[u8]) -> bool
     }
 }
 
-/// The first base that begins with the epoch and a dot, as the prefix has them, and ends with `.quotad`.
+/// The first base that begins with the epoch and a dot, as the prefix has them, and ends with
+/// `.quotad`.
 pub(crate) fn used_in(
     alloc: Global,
     epoch: u64,

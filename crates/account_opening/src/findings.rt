@@ -1,4 +1,5 @@
-// What stands against opening an account, mailbox by mailbox: no listing is kept behind its mailbox.
+// What stands against opening an account, mailbox by mailbox: no listing is kept behind its
+// mailbox.
 ghost use Rattle.std.specs.Prelude.{◌+◌, ◌≡◌, ◌++◌, codes, decimal, IfOk, IsErrOf};
 ghost use Rattle.quota_units.specs.Causes.{HasCause};
 ghost use Rattle.keeper.specs.Calls.{Changes, Spends};
@@ -72,9 +73,13 @@ pub(crate) fn find<K: Keeper>(
     mailboxes: &[Name],
     epoch: u64,
 ) -> Result<Findings, KeepError>
-    ensures files { Changes (Finds epoch mailboxes.now result) (K.told keeper.old) (K.told keeper.new) }
-    ensures cause { HasCause (IsErrOf result KeepError.Failed) (K.faults keeper.old) (K.faults keeper.new) }
-    ensures due { Changes (Spends (IsErrOf result KeepError.Failed) (K.faults keeper.old + K.append_faults keeper.old) (K.faults keeper.new + K.append_faults keeper.new)) (K.told keeper.old) (K.told keeper.new) }
+    ensures files { Changes (Finds epoch mailboxes.now result) (K.told keeper.old)
+        (K.told keeper.new) }
+    ensures cause { HasCause (IsErrOf result KeepError.Failed) (K.faults keeper.old)
+        (K.faults keeper.new) }
+    ensures due { Changes (Spends (IsErrOf result KeepError.Failed) (K.faults keeper.old
+        + K.append_faults keeper.old) (K.faults keeper.new + K.append_faults keeper.new))
+        (K.told keeper.old) (K.told keeper.new) }
     ensures appends { K.append_faults keeper.new ≡ K.append_faults keeper.old }
 {
     let prefix = format!(in alloc; "{epoch}.")?;

@@ -1,4 +1,5 @@
-//! What the files of an account tell when it is opened: the limits of its quota roots, and what stands against opening it.
+//! What the files of an account tell when it is opened: the limits of its quota roots, and what
+//! stands against opening it.
 #![tactic(auto)]
 
 mod admit;

@@ -19,8 +19,11 @@ pub(crate) fn read_limits<K: Keeper>(
     requires { length own.now ≤ 4 }
     ensures files { Changes (ReadsLimits own.now result) (K.told keeper.old) (K.told keeper.new) }
     ensures count { IfOk result (λ limits. length limits.items ≡ length own.now) }
-    ensures cause { HasCause (IsErrOf result KeepError.Failed) (K.faults keeper.old) (K.faults keeper.new) }
-    ensures due { Changes (Spends (IsErrOf result KeepError.Failed) (K.faults keeper.old + K.append_faults keeper.old) (K.faults keeper.new + K.append_faults keeper.new)) (K.told keeper.old) (K.told keeper.new) }
+    ensures cause { HasCause (IsErrOf result KeepError.Failed) (K.faults keeper.old)
+        (K.faults keeper.new) }
+    ensures due { Changes (Spends (IsErrOf result KeepError.Failed) (K.faults keeper.old
+        + K.append_faults keeper.old) (K.faults keeper.new + K.append_faults keeper.new))
+        (K.told keeper.old) (K.told keeper.new) }
     ensures appends { K.append_faults keeper.new ≡ K.append_faults keeper.old }
 {
     let mut limits = Vec::new(alloc);

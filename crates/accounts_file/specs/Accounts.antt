@@ -15,7 +15,8 @@ use Rattle.accounts_file.specs.RootTables.{tables_refusal, specs_of, all_limits,
 -- the names but the first of this one
 abbrev pub without_first : List ℕ → List (List ℕ) → List (List ℕ)
 without_first name [] = []
-without_first name (other ∷ names) = if bytes_eq other name then names else other ∷ without_first name names
+without_first name (other ∷ names) =
+    if bytes_eq other name then names else other ∷ without_first name names
 
 -- INBOX, and behind it the other names
 abbrev pub with_inbox : List (List ℕ) → List (List ℕ)
@@ -25,12 +26,14 @@ abbrev pub mailboxes_at : Members → List (List ℕ)
 mailboxes_at account = with_inbox (texts_at Mailboxes account)
 
 abbrev pub mailboxes_refusal : Members → Option AccountsError
-mailboxes_refusal account = first_in (texts_refusal Mailboxes account ∷ at_most Mailboxes 256 (length (mailboxes_at account)) ∷ [])
+mailboxes_refusal account = first_in
+    (texts_refusal Mailboxes account ∷ at_most Mailboxes 256 (length (mailboxes_at account)) ∷ [])
 
 -- what is refused of an account's table, key by key
 abbrev pub account_refusal : Members → Option AccountsError
 account_refusal account =
-    first_in (needed_text_refusal AccountName account ∷ needed_text_refusal Password account ∷ needed_text_refusal Token account
+    first_in (needed_text_refusal AccountName account ∷ needed_text_refusal Password account
+    ∷ needed_text_refusal Token account
     ∷ flag_refusal Admin account ∷ number_refusal Journal account ∷ texts_refusal Recipients account
     ∷ mailboxes_refusal account ∷ roots_refusal account ∷ [])
 
@@ -64,7 +67,8 @@ account_list_refusal (Some value) = tables_refusal Account 32 value
 
 -- what is refused of the list of accounts, and then of each account
 abbrev pub accounts_refusal : Members → Option AccountsError
-accounts_refusal file = first_in (account_list_refusal (value_at Account file) ∷ first_in (map refusal_in (items_at Account file)) ∷ [])
+accounts_refusal file = first_in (account_list_refusal (value_at Account file)
+    ∷ first_in (map refusal_in (items_at Account file)) ∷ [])
 
 abbrev pub account_in : Data → AccountEntry
 account_in value = account_of (members_in value)

@@ -17,10 +17,12 @@ use Rattle.accounts_file.specs.Refusals.{first_in, double}
 abbrev pub has_same : (List ℕ → List ℕ → Bool) → List (List ℕ) → List ℕ → Bool
 has_same same names name = list_any (λ other. same other name) names
 
--- the first of the names that is the same as one before it, or as one of those that were seen before
+-- the first of the names that is the same as one before it, or as one of those that were seen
+-- before
 abbrev pub first_repeat : (List ℕ → List ℕ → Bool) → List (List ℕ) → List (List ℕ) → Option (List ℕ)
 first_repeat same seen [] = None
-first_repeat same seen (name ∷ names) = if has_same same seen name then Some name else first_repeat same (seen ++ name ∷ []) names
+first_repeat same seen (name ∷ names) =
+    if has_same same seen name then Some name else first_repeat same (seen ++ name ∷ []) names
 
 -- the first of the names that stood before
 abbrev pub repeated : List (List ℕ) → Option (List ℕ)
@@ -36,7 +38,8 @@ is_inserted notes text = is_some (get_by (λ key. slice_cmp nat_cmp text key.now
 
 -- these names are noted in lower case, and no other text is
 abbrev pub AreInserted : {X : Type 0} → BTreeMap (Bor (List ℕ)) X → List (List ℕ) → Type 0
-AreInserted notes names = (text : List ℕ) → is_inserted notes text ≡ list_any (λ name. bytes_eq (str_to_ascii_lowercase name) text) names
+AreInserted notes names = (text : List ℕ)
+    → is_inserted notes text ≡ list_any (λ name. bytes_eq (str_to_ascii_lowercase name) text) names
 
 -- the name of the first root whose name stood before
 abbrev pub repeated_root : List RootSpec → Option (List ℕ)
@@ -44,7 +47,8 @@ repeated_root roots = option_map (name_at roots) (first_double roots)
 
 -- what is refused of an account's mailboxes and its roots
 abbrev pub own_double : AccountEntry → Option AccountsError
-own_double account = first_in (double (repeated account.setup.mailboxes) ∷ double (repeated_root account.setup.roots) ∷ [])
+own_double account = first_in
+    (double (repeated account.setup.mailboxes) ∷ double (repeated_root account.setup.roots) ∷ [])
 
 -- all recipients, in the order of the accounts
 abbrev pub all_recipients : List AccountEntry → List (List ℕ)
@@ -54,5 +58,7 @@ all_recipients (account ∷ accounts) = account.recipients ++ all_recipients acc
 -- what is refused of the accounts beside one another, and then of each
 abbrev pub doubles_refusal : List AccountEntry → Option AccountsError
 doubles_refusal accounts =
-    first_in (double (repeated (map (λ account. account.name) accounts)) ∷ double (repeated (map (λ account. account.token) accounts))
-    ∷ double (repeated_in_any_case (all_recipients accounts)) ∷ first_in (map own_double accounts) ∷ [])
+    first_in (double (repeated (map (λ account. account.name) accounts))
+    ∷ double (repeated (map (λ account. account.token) accounts))
+    ∷ double (repeated_in_any_case (all_recipients accounts)) ∷ first_in (map own_double accounts)
+    ∷ [])

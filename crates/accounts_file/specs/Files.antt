@@ -19,23 +19,31 @@ abbrev pub document : List ℕ → Option Members
 document bytes = if is_utf8 bytes then parse_document bytes else None
 
 abbrev pub settings_refusal : Members → Option AccountsError
-settings_refusal file = first_in (number_refusal Imap file ∷ number_refusal Jmap file ∷ number_refusal Policy file ∷ number_refusal Workers file ∷ [])
+settings_refusal file = first_in (number_refusal Imap file ∷ number_refusal Jmap file
+    ∷ number_refusal Policy file ∷ number_refusal Workers file ∷ [])
 
 abbrev pub settings_of : Members → Settings
 settings_of file =
-    record { imap = number_at Imap file; jmap = number_at Jmap file; policy = number_at Policy file; workers = unwrap_or (number_at Workers file) 2 }
+    record {
+      imap = number_at Imap file;
+      jmap = number_at Jmap file;
+      policy = number_at Policy file;
+      workers = unwrap_or (number_at Workers file) 2;
+    }
 
 -- the journals of all accounts together
 abbrev pub all_journals : List AccountEntry → ℕ
 all_journals accounts = sum_by (λ account. account.setup.journal) accounts
 
 abbrev pub journals_refusal : List AccountEntry → Option AccountsError
-journals_refusal accounts = if nat_le (all_journals accounts) 4194304 then None else Some (BadValue Journal)
+journals_refusal accounts =
+    if nat_le (all_journals accounts) 4194304 then None else Some (BadValue Journal)
 
 -- what is refused of a file, in order
 abbrev pub file_refusal : Members → Option AccountsError
 file_refusal file =
-    first_in (settings_refusal file ∷ accounts_refusal file ∷ doubles_refusal (accounts_of file) ∷ journals_refusal (accounts_of file) ∷ [])
+    first_in (settings_refusal file ∷ accounts_refusal file ∷ doubles_refusal (accounts_of file)
+    ∷ journals_refusal (accounts_of file) ∷ [])
 
 abbrev pub refusal_or_not_toml : Option Members → Option AccountsError
 refusal_or_not_toml None = Some NotToml

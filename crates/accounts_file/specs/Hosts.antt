@@ -38,7 +38,8 @@ is_secret_of kept given = not (nat_eq (length kept) 0) && bytes_eq kept given
 
 -- the account of this name, where it has this password
 abbrev pub logged_in : List AccountEntry → List ℕ → List ℕ → Option ℕ
-logged_in accounts name password = position (λ account. bytes_eq account.name name && is_secret_of account.password password) accounts
+logged_in accounts name password = position (λ account. bytes_eq account.name name
+    && is_secret_of account.password password) accounts
 
 -- the account that has this token
 abbrev pub holder : List AccountEntry → List ℕ → Option ℕ
@@ -46,13 +47,17 @@ holder accounts token = position (λ account. is_secret_of account.token token) 
 
 -- each account is the one that its own name, password and token find
 pub record AreToldApart (accounts : List AccountEntry) : Type 0 where
-  pub by_name : (account : ℕ) (entry : AccountEntry) → slice_get accounts account ≡ Some entry → named accounts entry.name ≡ Some account
-  pub by_password : (account : ℕ) (entry : AccountEntry) → slice_get accounts account ≡ Some entry → 0 < length entry.password → logged_in accounts entry.name entry.password ≡ Some account
-  pub by_token : (account : ℕ) (entry : AccountEntry) → slice_get accounts account ≡ Some entry → 0 < length entry.token → holder accounts entry.token ≡ Some account
+  pub by_name : (account : ℕ) (entry : AccountEntry) → slice_get accounts account ≡ Some entry
+      → named accounts entry.name ≡ Some account
+  pub by_password : (account : ℕ) (entry : AccountEntry) → slice_get accounts account ≡ Some entry
+      → 0 < length entry.password → logged_in accounts entry.name entry.password ≡ Some account
+  pub by_token : (account : ℕ) (entry : AccountEntry) → slice_get accounts account ≡ Some entry
+      → 0 < length entry.token → holder accounts entry.token ≡ Some account
 
 -- the account among whose recipients the address is, in any ASCII case
 abbrev pub receiver : List AccountEntry → List ℕ → Option ℕ
-receiver accounts address = position (λ account. list_any (λ recipient. str_eq_ignore_ascii_case recipient address) account.recipients) accounts
+receiver accounts address = position (λ account.
+    list_any (λ recipient. str_eq_ignore_ascii_case recipient address) account.recipients) accounts
 
 -- the port of a protocol's listener, where it is to be opened
 abbrev pub port_of : Settings → Wire → Option ℕ
@@ -66,14 +71,31 @@ plain_roots = record { name = []; prefix = None } ∷ []
 
 abbrev pub plain_setup : LimitNumbers → Setup
 plain_setup limits =
-    record { roots = plain_roots; limits = limits ∷ []; mailboxes = codes "INBOX" ∷ codes "Trash" ∷ []; journal = 65536 }
+    record {
+      roots = plain_roots;
+      limits = limits ∷ [];
+      mailboxes = codes "INBOX" ∷ codes "Trash" ∷ [];
+      journal = 65536;
+    }
 
 -- the account `main`, which may set limits, and to which nobody logs in
 abbrev pub plain_account : LimitNumbers → AccountEntry
 plain_account limits =
-    record { name = codes "main"; password = []; token = []; admin = true; recipients = []; setup = plain_setup limits }
+    record {
+      name = codes "main";
+      password = [];
+      token = [];
+      admin = true;
+      recipients = [];
+      setup = plain_setup limits;
+    }
 
 -- the table of that account alone
 abbrev pub plain_hosts : LimitNumbers → Hosts
 plain_hosts limits =
-    record { settings = record { imap = None; jmap = None; policy = None; workers = 2 }; accounts = plain_account limits ∷ []; epoch = 0 }
+    record {
+      settings = record { imap = None; jmap = None; policy = None; workers = 2 };
+      accounts =
+          plain_account limits ∷ [];
+      epoch = 0;
+    }

@@ -34,10 +34,13 @@ abbrev pub double : Option (List ℕ) → Option AccountsError
 double None = None
 double (Some name) = Some (Double name)
 
--- what was read is this value, and nothing is refused; or this is the refusal; or there was no memory
+-- what was read is this value, and nothing is refused; or this is the refusal; or there was no
+-- memory
 abbrev pub Reads : {A : Type 0} → Option AccountsError → A → Result A AccountsError → Type 0
-Reads refusal value result = MatchResult result (λ read. (refusal ≡ None) × (read ≡ value)) (λ e. (e ≡ NoMemory) ⊎ (refusal ≡ Some e))
+Reads refusal value result = MatchResult result (λ read. (refusal ≡ None)
+    × (read ≡ value)) (λ e. (e ≡ NoMemory) ⊎ (refusal ≡ Some e))
 
 -- nothing is refused; or this is the refusal; or there was no memory
 abbrev pub Checks : {A : Type 0} → Option AccountsError → Result A AccountsError → Type 0
-Checks refusal result = MatchResult result (λ _. refusal ≡ None) (λ e. (e ≡ NoMemory) ⊎ (refusal ≡ Some e))
+Checks refusal result =
+    MatchResult result (λ _. refusal ≡ None) (λ e. (e ≡ NoMemory) ⊎ (refusal ≡ Some e))

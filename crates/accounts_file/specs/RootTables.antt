@@ -27,7 +27,8 @@ are_tables value = some_tables (items_of value)
 
 -- what is refused of such a list at the key, and the most that it may have
 abbrev pub tables_refusal : Key → ℕ → Data → Option AccountsError
-tables_refusal key most value = first_in (judged key (are_tables value) ∷ at_most key most (length (unwrap_or (items_of value) [])) ∷ [])
+tables_refusal key most value = first_in
+    (judged key (are_tables value) ∷ at_most key most (length (unwrap_or (items_of value) [])) ∷ [])
 
 -- root 0 has no prefix, and each other root has one
 abbrev pub prefix_fits : ℕ → Option Data → Bool
@@ -38,18 +39,26 @@ abbrev pub prefix_refusal : ℕ → Members → Option AccountsError
 prefix_refusal root members = judged Prefix (prefix_fits root (value_at Prefix members))
 
 abbrev pub limits_refusal : Members → Option AccountsError
-limits_refusal members = first_in (number_refusal Storage members ∷ number_refusal Messages members ∷ [])
+limits_refusal members =
+    first_in (number_refusal Storage members ∷ number_refusal Messages members ∷ [])
 
 abbrev pub root_refusal : ℕ → Members → Option AccountsError
-root_refusal root members = first_in (text_refusal RootName members ∷ prefix_refusal root members ∷ limits_refusal members ∷ [])
+root_refusal root members = first_in
+    (text_refusal RootName members ∷ prefix_refusal root members ∷ limits_refusal members ∷ [])
 
 -- a root's name and prefix
 abbrev pub spec_of : Members → RootSpec
-spec_of members = record { name = unwrap_or (text_at RootName members) []; prefix = text_at Prefix members }
+spec_of members = record {
+  name = unwrap_or (text_at RootName members) [];
+  prefix = text_at Prefix members;
+}
 
 -- a root's limits: storage in units of 1024 octets, and messages
 abbrev pub limits_of : Members → LimitNumbers
-limits_of members = record { octets = option_map (λ units. 1024 * units) (number_at Storage members); count = number_at Messages members }
+limits_of members = record {
+  octets = option_map (λ units. 1024 * units) (number_at Storage members);
+  count = number_at Messages members;
+}
 
 -- the members of a table; none of another value
 abbrev pub members_or_none : Option Members → Members
@@ -66,7 +75,8 @@ root_value_refusal root (Some members) = root_refusal root members
 
 abbrev pub root_refusals : ℕ → List Data → List (Option AccountsError)
 root_refusals root [] = []
-root_refusals root (value ∷ values) = root_value_refusal root (as_table value) ∷ root_refusals (suc root) values
+root_refusals root (value ∷ values) =
+    root_value_refusal root (as_table value) ∷ root_refusals (suc root) values
 
 abbrev pub specs_of : List Data → List RootSpec
 specs_of values = map (λ value. spec_of (members_in value)) values
@@ -88,7 +98,8 @@ root_list_refusal (Some value) = tables_refusal Root 4 value
 
 -- what is refused of the list of roots, and then of each root
 abbrev pub roots_refusal : Members → Option AccountsError
-roots_refusal account = first_in (root_list_refusal (value_at Root account) ∷ first_in (root_refusals 0 (root_tables account)) ∷ [])
+roots_refusal account = first_in (root_list_refusal (value_at Root account)
+    ∷ first_in (root_refusals 0 (root_tables account)) ∷ [])
 
 -- 1 to 4 roots, each right in its place, with limits for each
 pub record AreRootsRead (roots : List RootSpec) (limits : List LimitNumbers) : Type 0 where

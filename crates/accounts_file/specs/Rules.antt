@@ -14,7 +14,8 @@ is_id_byte byte = is_ascii_alphanumeric byte || (nat_eq byte 0x2D || nat_eq byte
 
 -- a JMAP Id of 1 to 64 characters that does not begin with `-`
 abbrev pub is_account_name : List ℕ → Bool
-is_account_name name = (nat_le 1 (length name) && nat_le (length name) 64) && (list_all is_id_byte name && not (starts_with nat_eq name (codes "-")))
+is_account_name name = (nat_le 1 (length name) && nat_le (length name) 64)
+    && (list_all is_id_byte name && not (starts_with nat_eq name (codes "-")))
 
 -- a byte of a password or a token: printing ASCII but the space
 abbrev pub is_secret_byte : ℕ → Bool
@@ -22,7 +23,8 @@ is_secret_byte byte = nat_le 0x21 byte && nat_le byte 0x7E
 
 -- 1 to 64 such bytes
 abbrev pub is_secret : List ℕ → Bool
-is_secret secret = (nat_le 1 (length secret) && nat_le (length secret) 64) && list_all is_secret_byte secret
+is_secret secret =
+    (nat_le 1 (length secret) && nat_le (length secret) 64) && list_all is_secret_byte secret
 
 -- a mailbox name other than Trash
 abbrev pub is_prefix : List ℕ → Bool

@@ -66,10 +66,12 @@ texts_at key table = map (text_or_empty key) (items_at key table)
 
 -- what is refused at a key, where the value is not of its kind and range
 abbrev pub number_refusal : Key → Members → Option AccountsError
-number_refusal key table = optional key (option_map (λ value. is_some (number_of key value)) (value_at key table))
+number_refusal key table =
+    optional key (option_map (λ value. is_some (number_of key value)) (value_at key table))
 
 abbrev pub flag_refusal : Key → Members → Option AccountsError
-flag_refusal key table = optional key (option_map (λ value. is_some (as_bool value)) (value_at key table))
+flag_refusal key table =
+    optional key (option_map (λ value. is_some (as_bool value)) (value_at key table))
 
 abbrev pub needed_text_refusal : Key → Members → Option AccountsError
 needed_text_refusal key table = needed key (option_map (is_text key) (value_at key table))

@@ -18,7 +18,8 @@ use toml::{Table, Value};
 
 /// INBOX, and behind it the other names. The first INBOX among the names is taken out.
 fn with_inbox(alloc: Global, names: Vec<Name>) -> Result<Vec<Name>, AccountsError>
-    ensures { MatchResult result (λ mailboxes. mailboxes.items ≡ with_inbox names.items) (λ e. e ≡ AccountsError.NoMemory) }
+    ensures { MatchResult result (λ mailboxes. mailboxes.items ≡ with_inbox names.items)
+        (λ e. e ≡ AccountsError.NoMemory) }
 {
     let mut mailboxes = without_inbox(names);
     mailboxes.insert(0, name_of(alloc, b"INBOX")?)?;
@@ -52,7 +53,8 @@ fn index_of_inbox(names: &[Name]) -> Option<usize>
 /// The mailboxes of an account, INBOX first.
 #[tactic(auto, using(crate::proofs::RuleLemmas::read_mailboxes))]
 fn mailboxes_at(alloc: Global, account: &Table) -> Result<NameList, AccountsError>
-    ensures reads { Reads (mailboxes_refusal (table_view account.now)) (mailboxes_at (table_view account.now)) result }
+    ensures reads { Reads (mailboxes_refusal (table_view account.now))
+        (mailboxes_at (table_view account.now)) result }
     ensures inbox { IfOk result (λ mailboxes. slice_get mailboxes 0 ≡ Some (codes "INBOX")) }
     ensures few { IfOk result (λ mailboxes. length mailboxes ≤ 256) }
     ensures named { IfOk result (λ mailboxes. list_all is_mailbox mailboxes ≡ true) }
@@ -69,7 +71,8 @@ fn mailboxes_at(alloc: Global, account: &Table) -> Result<NameList, AccountsErro
 
 /// The account of a table.
 fn read_account(alloc: Global, account: &Table) -> Result<Draft, AccountsError>
-    ensures { Reads (account_refusal (table_view account.now)) (account_of (table_view account.now)) result }
+    ensures { Reads (account_refusal (table_view account.now))
+        (account_of (table_view account.now)) result }
 {
     let name = needed_text(alloc, account, Key::AccountName)?;
     let password = needed_text(alloc, account, Key::Password)?;
@@ -105,8 +108,10 @@ fn read_value(alloc: Global, value: &Value) -> Result<Draft, AccountsError>
 /// The accounts of a list of values.
 #[tactic(auto, using(crate::proofs::ListLemmas::accounts_more, crate::proofs::ListLemmas::accounts_end))]
 fn read_values(alloc: Global, values: &[Value]) -> Result<Vec<Draft>, AccountsError>
-    ensures ok { IfOk result (λ drafts. (first_in (map refusal_in (map view values.now)) ≡ None) × (drafts.items ≡ map account_in (map view values.now))) }
-    ensures err { IfErr result (λ e. (e ≡ AccountsError.NoMemory) ⊎ (first_in (map refusal_in (map view values.now)) ≡ Some e)) }
+    ensures ok { IfOk result (λ drafts. (first_in (map refusal_in (map view values.now)) ≡ None)
+        × (drafts.items ≡ map account_in (map view values.now))) }
+    ensures err { IfErr result (λ e. (e ≡ AccountsError.NoMemory)
+        ⊎ (first_in (map refusal_in (map view values.now)) ≡ Some e)) }
 {
     let mut drafts = Vec::new(alloc);
     for value in values {
@@ -117,9 +122,11 @@ fn read_values(alloc: Global, values: &[Value]) -> Result<Vec<Draft>, AccountsEr
 
 /// The accounts of a file.
 pub(crate) fn read_drafts(alloc: Global, file: &Table) -> Result<Vec<Draft>, AccountsError>
-    ensures ok { IfOk result (λ drafts. (accounts_refusal (table_view file.now) ≡ None) × (drafts.items ≡ accounts_of (table_view file.now))) }
+    ensures ok { IfOk result (λ drafts. (accounts_refusal (table_view file.now) ≡ None)
+        × (drafts.items ≡ accounts_of (table_view file.now))) }
     ensures count { IfOk result (λ drafts. (1 ≤ length drafts.items) × (length drafts.items ≤ 32)) }
-    ensures err { IfErr result (λ e. (e ≡ AccountsError.NoMemory) ⊎ (accounts_refusal (table_view file.now) ≡ Some e)) }
+    ensures err { IfErr result (λ e. (e ≡ AccountsError.NoMemory)
+        ⊎ (accounts_refusal (table_view file.now) ≡ Some e)) }
 {
     match value_at(file, Key::Account) {
         None => Err(AccountsError::Missing { key: Key::Account }),

@@ -39,7 +39,8 @@ fn repeated(names: &[Name]) -> Option<&Name>
 
 /// The names in lower case, by which they are compared in any ASCII case.
 fn in_lower_case(alloc: Global, names: &[Name]) -> Result<Vec<Vec<u8>>, AllocError>
-    ensures texts { IfOk result (λ lower. map (λ name. name.items) lower.items ≡ map str_to_ascii_lowercase names.now) }
+    ensures texts { IfOk result
+        (λ lower. map (λ name. name.items) lower.items ≡ map str_to_ascii_lowercase names.now) }
     ensures count { IfOk result (λ lower. length lower.items ≡ length names.now) }
 {
     let mut lower = Vec::new(alloc);
@@ -53,7 +54,8 @@ fn in_lower_case(alloc: Global, names: &[Name]) -> Result<Vec<Vec<u8>>, AllocErr
 #[tactic(auto, using(crate::proofs::DoubleLemmas::noted_one))]
 fn insert_text<'a>(notes: &mut BTreeMap<&'a [u8], ()>, text: &'a [u8]) -> Result<bool, AllocError>
     ensures again { IfOk result (λ again. again ≡ is_inserted notes.old text.now) }
-    ensures notes { OnOk result ((other : List ℕ) → is_inserted notes.new other ≡ (bytes_eq text.now other || is_inserted notes.old other)) }
+    ensures notes { OnOk result ((other : List ℕ)
+        → is_inserted notes.new other ≡ (bytes_eq text.now other || is_inserted notes.old other)) }
 {
     Ok(notes.insert(text, ())?.is_some())
 }
@@ -64,7 +66,8 @@ fn repeated_in_any_case<'a>(
     alloc: Global,
     names: &'a [Name],
 ) -> Result<Option<&'a Name>, AllocError>
-    ensures { IfOk result (λ found. option_map (λ name. name.now) found ≡ repeated_in_any_case names.now) }
+    ensures { IfOk result
+        (λ found. option_map (λ name. name.now) found ≡ repeated_in_any_case names.now) }
 {
     let lower = in_lower_case(alloc, names)?;
     let mut notes = BTreeMap::new(alloc);
@@ -142,9 +145,11 @@ fn entry_of(alloc: Global, draft: Draft) -> Result<AccountEntry, AccountsError>
 
 /// The accounts, where none has a mailbox or a root twice.
 fn entries_of(alloc: Global, drafts: Vec<Draft>) -> Result<Vec<AccountEntry>, AccountsError>
-    ensures ok { IfOk result (λ entries. (first_in (map own_double drafts.items) ≡ None) × (entries.items ≡ drafts.items)) }
+    ensures ok { IfOk result (λ entries. (first_in (map own_double drafts.items) ≡ None)
+        × (entries.items ≡ drafts.items)) }
     ensures sound { IfOk result (λ entries. All (λ entry. IsSound entry.setup) entries.items) }
-    ensures err { IfErr result (λ e. (e ≡ AccountsError.NoMemory) ⊎ (first_in (map own_double drafts.items) ≡ Some e)) }
+    ensures err { IfErr result (λ e. (e ≡ AccountsError.NoMemory)
+        ⊎ (first_in (map own_double drafts.items) ≡ Some e)) }
 {
     let mut entries = Vec::new(alloc);
     for draft in drafts {
@@ -204,10 +209,12 @@ pub(crate) fn different_accounts(
     alloc: Global,
     drafts: Vec<Draft>,
 ) -> Result<Vec<AccountEntry>, AccountsError>
-    ensures ok { IfOk result (λ entries. (doubles_refusal drafts.items ≡ None) × (entries.items ≡ drafts.items)) }
+    ensures ok { IfOk result (λ entries. (doubles_refusal drafts.items ≡ None)
+        × (entries.items ≡ drafts.items)) }
     ensures sound { IfOk result (λ entries. All (λ entry. IsSound entry.setup) entries.items) }
     ensures different { IfOk result (λ entries. AreDifferent entries.items) }
-    ensures err { IfErr result (λ e. (e ≡ AccountsError.NoMemory) ⊎ (doubles_refusal drafts.items ≡ Some e)) }
+    ensures err { IfErr result (λ e. (e ≡ AccountsError.NoMemory)
+        ⊎ (doubles_refusal drafts.items ≡ Some e)) }
 {
     check_names(alloc, &all_names(alloc, &drafts)?)?;
     check_names(alloc, &all_tokens(alloc, &drafts)?)?;

@@ -23,7 +23,34 @@ impl Model for Draft {
 
     ghost use Rattle.accounts_file.specs.Accounts.{IsRight};
 
-    ghost view = { λ d. record { name = d.name; password = d.password; token = d.token; admin = d.admin; recipients = d.recipients; setup = record { roots = d.specs.items; limits = d.limits.items; mailboxes = d.mailboxes; journal = d.journal } } };
+    ghost view = { λ d. record {
+      name = d.name;
+      password = d.password;
+      token = d.token;
+      admin =
+          d.admin;
+      recipients = d.recipients;
+      setup = record {
+        roots = d.specs.items;
+        limits =
+            d.limits.items;
+        mailboxes = d.mailboxes;
+        journal = d.journal;
+      };
+    } };
 
-    ghost invariant = { λ d. IsRight (record { name = d.name; password = d.password; token = d.token; admin = d.admin; recipients = d.recipients; setup = record { roots = d.specs.items; limits = d.limits.items; mailboxes = d.mailboxes; journal = d.journal } }) };
+    ghost invariant = { λ d. IsRight (record {
+      name = d.name;
+      password = d.password;
+      token =
+          d.token;
+      admin = d.admin;
+      recipients = d.recipients;
+      setup = record {
+        roots = d.specs.items;
+        limits = d.limits.items;
+        mailboxes = d.mailboxes;
+        journal = d.journal;
+      };
+    }) };
 }

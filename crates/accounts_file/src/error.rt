@@ -15,7 +15,8 @@ pub enum AccountsError {
     /// A value is not of its key's kind or range.
     #[error("bad {key}")]
     BadValue { key: Key },
-    /// A name stands twice: of an account, a token, a recipient, a mailbox of an account or a quota root of one.
+    /// A name stands twice: of an account, a token, a recipient, a mailbox of an account or a quota
+    /// root of one.
     #[error("a name stands twice")]
     Double { name: Name },
     /// A list is too long.

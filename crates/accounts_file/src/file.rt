@@ -21,12 +21,15 @@ const MAX_JOURNALS: u64 = 4194304;
 ///
 /// # Errors
 ///
-/// The first refusal, in this order: `NotToml`; key by key `Missing`, `BadValue` and `TooMany`, with the accounts in the
-/// file's order and the roots of each in theirs; `Double` of a name, a token, a recipient, a mailbox or a root's name;
-/// `BadValue` of `journal` where all journals together are above 4194304. `NoMemory` may come in place of any.
+/// The first refusal, in this order: `NotToml`; key by key `Missing`, `BadValue` and `TooMany`,
+/// with the accounts in the file's order and the roots of each in theirs; `Double` of a name, a
+/// token, a recipient, a mailbox or a root's name; `BadValue` of `journal` where all journals
+/// together are above 4194304. `NoMemory` may come in place of any.
 pub fn read_accounts(alloc: Global, bytes: &[u8], epoch: u64) -> Result<HostTable, AccountsError>
-    ensures accepted { IfOk result (λ table. (refusal_of bytes.now ≡ None) × (table ≡ hosts_of bytes.now epoch)) }
-    ensures refused { IfErr result (λ e. (e ≡ AccountsError.NoMemory) ⊎ (refusal_of bytes.now ≡ Some e)) }
+    ensures accepted { IfOk result (λ table. (refusal_of bytes.now ≡ None)
+        × (table ≡ hosts_of bytes.now epoch)) }
+    ensures refused { IfErr result (λ e. (e ≡ AccountsError.NoMemory)
+        ⊎ (refusal_of bytes.now ≡ Some e)) }
     ensures sound { IfOk result (λ table. All (λ account. IsSound account.setup) table.accounts) }
 {
     let file = parse(alloc, bytes)?;
@@ -45,7 +48,8 @@ pub fn read_accounts(alloc: Global, bytes: &[u8], epoch: u64) -> Result<HostTabl
 #[tactic(auto, using(crate::proofs::FileLemmas::written, crate::proofs::FileLemmas::not_written))]
 fn parse(alloc: Global, bytes: &[u8]) -> Result<Table, AccountsError>
     ensures ok { IfOk result (λ table. document bytes.now ≡ Some (table_view table)) }
-    ensures err { IfErr result (λ e. (e ≡ AccountsError.NoMemory) ⊎ ((e ≡ AccountsError.NotToml) × (document bytes.now ≡ None))) }
+    ensures err { IfErr result (λ e. (e ≡ AccountsError.NoMemory)
+        ⊎ ((e ≡ AccountsError.NotToml) × (document bytes.now ≡ None))) }
 {
     match toml::de::table_from_slice(alloc, bytes) {
         Ok(table) => Ok(table),

@@ -10,7 +10,8 @@ use quota_units::Name;
 use std::marker::Model;
 use wire_io::Wire;
 
-/// The accounts of a host, with its listeners and the epoch of its names. Accounts are numbered by their places, from 0 on.
+/// The accounts of a host, with its listeners and the epoch of its names. Accounts are numbered by
+/// their places, from 0 on.
 #[derive(Drop)]
 pub struct HostTable {
     pub(crate) settings: Settings,
@@ -23,7 +24,11 @@ impl Model for HostTable {
 
     ghost Value = { Hosts };
 
-    ghost view = { λ h. record { settings = h.settings; accounts = h.accounts.items; epoch = h.epoch } };
+    ghost view = { λ h. record {
+      settings = h.settings;
+      accounts = h.accounts.items;
+      epoch = h.epoch;
+    } };
 
     ghost invariant = { λ h. AreAccounts h.accounts.items };
 }
@@ -54,7 +59,8 @@ impl HostTable {
         named(&self.accounts, name).map(|at| at as u32)
     }
 
-    /// The number of the account of this name, where this is its password. An empty password is none.
+    /// The number of the account of this name, where this is its password. An empty password is
+    /// none.
     pub fn login(&self, name: &[u8], password: &[u8]) -> Option<u32>
         ensures value { result ≡ logged_in self.now.accounts name.now password.now }
         ensures within { IfSome result (λ account. account < length self.now.accounts) }
@@ -85,7 +91,8 @@ impl HostTable {
         receiver(&self.accounts, address).map(|at| at as u32)
     }
 
-    /// The epoch in the names of messages that are delivered: seconds since 1970, as the host was opened.
+    /// The epoch in the names of messages that are delivered: seconds since 1970, as the host was
+    /// opened.
     pub fn epoch(&self) -> u64
         ensures { result ≡ self.now.epoch }
     {
@@ -128,7 +135,8 @@ fn logged_in(accounts: &[AccountEntry], name: &[u8], password: &[u8]) -> Option<
 }
 
 fn lets_in(account: &AccountEntry, name: &[u8], password: &[u8]) -> bool
-    ensures { result ≡ (bytes_eq account.now.name name.now && is_secret_of account.now.password password.now) }
+    ensures { result
+        ≡ (bytes_eq account.now.name name.now && is_secret_of account.now.password password.now) }
 {
     account.name.as_slice() == name && is_secret_of(account.password.as_slice(), password)
 }
@@ -155,7 +163,8 @@ fn is_secret_of(kept: &[u8], given: &[u8]) -> bool
 }
 
 fn has_address(recipients: &[Name], address: &[u8]) -> bool
-    ensures { result ≡ list_any (λ recipient. str_eq_ignore_ascii_case recipient address.now) recipients.now }
+    ensures { result
+        ≡ list_any (λ recipient. str_eq_ignore_ascii_case recipient address.now) recipients.now }
 {
     recipients.iter().any(|recipient| recipient.as_slice().eq_ignore_ascii_case(address))
 }

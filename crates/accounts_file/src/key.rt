@@ -16,7 +16,8 @@ pub enum Key {
     Workers,
     /// The list of accounts: 1 to 32 tables.
     Account,
-    /// An account's name: a JMAP Id (RFC 8620, section 1.2) of at most 64 characters that does not begin with `-`.
+    /// An account's name: a JMAP Id (RFC 8620, section 1.2) of at most 64 characters that does not
+    /// begin with `-`.
     AccountName,
     /// An account's password: 1 to 64 bytes from 0x21 to 0x7E.
     Password,

@@ -1,4 +1,5 @@
-//! The accounts file of a mail host: its TOML text, read into a table of accounts, or its first refusal.
+//! The accounts file of a mail host: its TOML text, read into a table of accounts, or its first
+//! refusal.
 #![tactic(auto)]
 
 mod accounts;

@@ -27,8 +27,10 @@ pub(crate) fn items_of(value: &Value) -> Option<&[Value]>
 /// The texts of a list, each as it is kept.
 #[tactic(auto, using(crate::proofs::ListLemmas::texts_more, crate::proofs::ListLemmas::texts_end))]
 fn names_of(alloc: Global, key: Key, items: &[Value]) -> Result<Vec<Name>, AccountsError>
-    ensures ok { IfOk result (λ names. (list_all (is_text key) (map view items.now) ≡ true) × (names.items ≡ map (text_or_empty key) (map view items.now))) }
-    ensures err { IfErr result (λ e. (e ≡ AccountsError.NoMemory) ⊎ (judged key (list_all (is_text key) (map view items.now)) ≡ Some e)) }
+    ensures ok { IfOk result (λ names. (list_all (is_text key) (map view items.now) ≡ true)
+        × (names.items ≡ map (text_or_empty key) (map view items.now))) }
+    ensures err { IfErr result (λ e. (e ≡ AccountsError.NoMemory)
+        ⊎ (judged key (list_all (is_text key) (map view items.now)) ≡ Some e)) }
 {
     let mut names = Vec::new(alloc);
     for item in items {
@@ -39,7 +41,9 @@ fn names_of(alloc: Global, key: Key, items: &[Value]) -> Result<Vec<Name>, Accou
 
 /// The texts of the list at the key, each as it is kept; none where no list is there.
 pub(crate) fn names_at(alloc: Global, table: &Table, key: Key) -> Result<Vec<Name>, AccountsError>
-    ensures { MatchResult result (λ names. (texts_refusal key (table_view table.now) ≡ None) × (names.items ≡ texts_at key (table_view table.now))) (λ e. (e ≡ AccountsError.NoMemory) ⊎ (texts_refusal key (table_view table.now) ≡ Some e)) }
+    ensures { MatchResult result (λ names. (texts_refusal key (table_view table.now) ≡ None)
+        × (names.items ≡ texts_at key (table_view table.now))) (λ e. (e ≡ AccountsError.NoMemory)
+        ⊎ (texts_refusal key (table_view table.now) ≡ Some e)) }
 {
     match value_at(table, key) {
         None => Ok(Vec::new(alloc)),
@@ -52,7 +56,8 @@ pub(crate) fn names_at(alloc: Global, table: &Table, key: Key) -> Result<Vec<Nam
 
 /// The values of a list of one table or more, of which there are at most `most`.
 pub(crate) fn tables_of(key: Key, most: usize, value: &Value) -> Result<&[Value], AccountsError>
-    ensures ok { IfOk result (λ values. (are_tables (view value.now) ≡ true) × (length values.now ≤ most) × (items_of (view value.now) ≡ Some (map view values.now))) }
+    ensures ok { IfOk result (λ values. (are_tables (view value.now) ≡ true)
+        × (length values.now ≤ most) × (items_of (view value.now) ≡ Some (map view values.now))) }
     ensures some { IfOk result (λ values. 1 ≤ length values.now) }
     ensures err { IfErr result (λ e. tables_refusal key most (view value.now) ≡ Some e) }
 {

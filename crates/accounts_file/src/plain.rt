@@ -11,8 +11,8 @@ use std::alloc::Global;
 
 /// The table of one account `main` with these limits, which may set limits.
 ///
-/// It has one quota root of the empty name, the mailboxes INBOX and Trash, room for 65536 entries of history, and the
-/// epoch 0. Nobody can log in to it, and it has no token.
+/// It has one quota root of the empty name, the mailboxes INBOX and Trash, room for 65536 entries
+/// of history, and the epoch 0. Nobody can log in to it, and it has no token.
 ///
 /// # Errors
 ///

@@ -25,7 +25,8 @@ pub(crate) struct RootsRead {
 /// The prefix of the root of this number.
 #[tactic(auto, using(crate::proofs::RuleLemmas::read_prefix, crate::proofs::RuleLemmas::some_again))]
 fn prefix_at(alloc: Global, members: &Table, root: usize) -> Result<Option<Name>, AccountsError>
-    ensures reads { Reads (prefix_refusal root (table_view members.now)) (text_at Key.Prefix (table_view members.now)) result }
+    ensures reads { Reads (prefix_refusal root (table_view members.now))
+        (text_at Key.Prefix (table_view members.now)) result }
     ensures right { IfOk result (λ prefix. is_prefix_at root prefix ≡ true) }
 {
     match value_at(members, Key::Prefix) {
@@ -37,7 +38,8 @@ fn prefix_at(alloc: Global, members: &Table, root: usize) -> Result<Option<Name>
 
 /// The limits of a root: storage in units of 1024 octets, and messages.
 fn limits_at(members: &Table) -> Result<Limits, AccountsError>
-    ensures { Reads (limits_refusal (table_view members.now)) (limits_of (table_view members.now)) result }
+    ensures { Reads (limits_refusal (table_view members.now))
+        (limits_of (table_view members.now)) result }
 {
     let storage = number_at(members, Key::Storage)?;
     let messages = number_at(members, Key::Messages)?;
@@ -55,7 +57,8 @@ fn read_root(
     root: usize,
     members: &Table,
 ) -> Result<(RootSpec, Limits), AccountsError>
-    ensures reads { Reads (root_refusal root (table_view members.now)) (spec_of (table_view members.now), limits_of (table_view members.now)) result }
+    ensures reads { Reads (root_refusal root (table_view members.now))
+        (spec_of (table_view members.now), limits_of (table_view members.now)) result }
     ensures right { IfOk result (λ read. is_root_at root read.0 ≡ true) }
 {
     let name = text_or_empty(alloc, members, Key::RootName)?;
@@ -70,7 +73,8 @@ fn read_value(
     root: usize,
     value: &Value,
 ) -> Result<(RootSpec, Limits), AccountsError>
-    ensures reads { Reads (root_value_refusal root (as_table (view value.now))) (spec_of (members_in (view value.now)), limits_of (members_in (view value.now))) result }
+    ensures reads { Reads (root_value_refusal root (as_table (view value.now)))
+        (spec_of (members_in (view value.now)), limits_of (members_in (view value.now))) result }
     ensures right { IfOk result (λ read. is_root_at root read.0 ≡ true) }
 {
     match value.as_table() {
@@ -82,9 +86,12 @@ fn read_value(
 /// The roots of a list of values.
 #[tactic(auto, using(crate::proofs::RootLemmas::right_more, crate::proofs::RootLemmas::right_roots, crate::proofs::ListLemmas::roots_more, crate::proofs::ListLemmas::roots_end))]
 fn read_values(alloc: Global, values: &[Value]) -> Result<RootsRead, AccountsError>
-    ensures ok { IfOk result (λ read. (first_in (root_refusals 0 (map view values.now)) ≡ None) × (read.specs.items ≡ specs_of (map view values.now)) × (read.limits.items ≡ all_limits (map view values.now))) }
+    ensures ok { IfOk result (λ read. (first_in (root_refusals 0 (map view values.now)) ≡ None)
+        × (read.specs.items ≡ specs_of (map view values.now))
+        × (read.limits.items ≡ all_limits (map view values.now))) }
     ensures right { IfOk result (λ read. first_bad_name read.specs.items ≡ None) }
-    ensures err { IfErr result (λ e. (e ≡ AccountsError.NoMemory) ⊎ (first_in (root_refusals 0 (map view values.now)) ≡ Some e)) }
+    ensures err { IfErr result (λ e. (e ≡ AccountsError.NoMemory)
+        ⊎ (first_in (root_refusals 0 (map view values.now)) ≡ Some e)) }
 {
     let mut specs = Vec::new(alloc);
     let mut limits = Vec::new(alloc);
@@ -98,9 +105,12 @@ fn read_values(alloc: Global, values: &[Value]) -> Result<RootsRead, AccountsErr
 
 /// The quota roots of an account; one without name and limits where it gives none.
 pub(crate) fn read_roots(alloc: Global, account: &Table) -> Result<RootsRead, AccountsError>
-    ensures ok { IfOk result (λ read. (roots_refusal (table_view account.now) ≡ None) × (read.specs.items ≡ specs_of (root_tables (table_view account.now))) × (read.limits.items ≡ all_limits (root_tables (table_view account.now)))) }
+    ensures ok { IfOk result (λ read. (roots_refusal (table_view account.now) ≡ None)
+        × (read.specs.items ≡ specs_of (root_tables (table_view account.now)))
+        × (read.limits.items ≡ all_limits (root_tables (table_view account.now)))) }
     ensures right { IfOk result (λ read. AreRootsRead read.specs.items read.limits.items) }
-    ensures err { IfErr result (λ e. (e ≡ AccountsError.NoMemory) ⊎ (roots_refusal (table_view account.now) ≡ Some e)) }
+    ensures err { IfErr result (λ e. (e ≡ AccountsError.NoMemory)
+        ⊎ (roots_refusal (table_view account.now) ≡ Some e)) }
 {
     match value_at(account, Key::Root) {
         None => {

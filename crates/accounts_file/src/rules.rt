@@ -39,7 +39,8 @@ fn is_right(key: Key, text: &[u8]) -> bool
     }
 }
 
-/// Whether this is a JMAP Id (RFC 8620, section 1.2) of 1 to 64 characters that does not begin with `-`.
+/// Whether this is a JMAP Id (RFC 8620, section 1.2) of 1 to 64 characters that does not begin with
+/// `-`.
 fn is_account_name(name: &[u8]) -> bool
     ensures { result ≡ is_account_name name.now }
 {

@@ -25,7 +25,8 @@ pub struct Settings {
 
 /// The ports and the number of workers of a file.
 pub(crate) fn read_settings(file: &Table) -> Result<Settings, AccountsError>
-    ensures { Reads (settings_refusal (table_view file.now)) (settings_of (table_view file.now)) result }
+    ensures { Reads (settings_refusal (table_view file.now))
+        (settings_of (table_view file.now)) result }
 {
     let imap = port_at(file, Key::Imap)?;
     let jmap = port_at(file, Key::Jmap)?;
@@ -42,7 +43,8 @@ pub(crate) fn read_settings(file: &Table) -> Result<Settings, AccountsError>
 /// The port at the key.
 fn port_at(file: &Table, key: Key) -> Result<Option<u16>, AccountsError>
     requires { most key ≡ 65535 }
-    ensures { Reads (number_refusal key (table_view file.now)) (number_at key (table_view file.now)) result }
+    ensures { Reads (number_refusal key (table_view file.now))
+        (number_at key (table_view file.now)) result }
 {
     match number_at(file, key)? {
         None => Ok(None),

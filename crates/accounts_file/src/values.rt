@@ -42,7 +42,8 @@ fn number_of(key: Key, value: &Value) -> Option<u64>
 
 /// The number at the key, from 1 on.
 pub(crate) fn number_at(table: &Table, key: Key) -> Result<Option<u64>, AccountsError>
-    ensures reads { Reads (number_refusal key (table_view table.now)) (number_at key (table_view table.now)) result }
+    ensures reads { Reads (number_refusal key (table_view table.now))
+        (number_at key (table_view table.now)) result }
     ensures range { IfOk result (λ number. IfSome number (λ n. (1 ≤ n) × (n ≤ most key))) }
 {
     match value_at(table, key) {
@@ -56,7 +57,8 @@ pub(crate) fn number_at(table: &Table, key: Key) -> Result<Option<u64>, Accounts
 
 /// Whether the flag at the key is set.
 pub(crate) fn flag_at(table: &Table, key: Key) -> Result<bool, AccountsError>
-    ensures { Reads (flag_refusal key (table_view table.now)) (flag_at key (table_view table.now)) result }
+    ensures { Reads (flag_refusal key (table_view table.now))
+        (flag_at key (table_view table.now)) result }
 {
     match value_at(table, key) {
         None => Ok(false),
@@ -69,7 +71,8 @@ pub(crate) fn flag_at(table: &Table, key: Key) -> Result<bool, AccountsError>
 
 /// The text that the value is, as it is kept.
 pub(crate) fn text_of(alloc: Global, key: Key, value: &Value) -> Result<Name, AccountsError>
-    ensures { Reads (judged key (is_some (text_of key (view value.now)))) (text_or_empty key (view value.now)) result }
+    ensures { Reads (judged key (is_some (text_of key (view value.now))))
+        (text_or_empty key (view value.now)) result }
 {
     match value.as_str() {
         Some(text) if fits(key, text.as_bytes()) => name_of(alloc, spelling(key, text.as_bytes())),
@@ -90,7 +93,8 @@ pub(crate) fn name_of(alloc: Global, bytes: &[u8]) -> Result<Name, AccountsError
 
 /// The text that must stand at the key.
 pub(crate) fn needed_text(alloc: Global, table: &Table, key: Key) -> Result<Name, AccountsError>
-    ensures { Reads (needed_text_refusal key (table_view table.now)) (unwrap_or (text_at key (table_view table.now)) []) result }
+    ensures { Reads (needed_text_refusal key (table_view table.now))
+        (unwrap_or (text_at key (table_view table.now)) []) result }
 {
     match value_at(table, key) {
         None => Err(AccountsError::Missing { key }),
@@ -100,7 +104,8 @@ pub(crate) fn needed_text(alloc: Global, table: &Table, key: Key) -> Result<Name
 
 /// The text at the key, or the empty one.
 pub(crate) fn text_or_empty(alloc: Global, table: &Table, key: Key) -> Result<Name, AccountsError>
-    ensures { Reads (text_refusal key (table_view table.now)) (unwrap_or (text_at key (table_view table.now)) []) result }
+    ensures { Reads (text_refusal key (table_view table.now))
+        (unwrap_or (text_at key (table_view table.now)) []) result }
 {
     match value_at(table, key) {
         None => name_of(alloc, b""),

@@ -1,4 +1,5 @@
--- Whether a message fits the limits of quota roots: RFC 9208, section 4.3.1 (OVERQUOTA). Usage may equal a limit.
+-- Whether a message fits the limits of quota roots: RFC 9208, section 4.3.1 (OVERQUOTA). Usage may
+-- equal a limit.
 use Rattle.std.specs.Prelude.{ℕ, ◌+◌, Bool, true, not, ◌&&◌, IsTrue, List, slice_get, slice_index_or, filter_map, nat_le, All, Option, Some, None, option_map, if◌then◌else◌}
 use Rattle.quota_units.specs.Limiting.{LimitNumbers}
 use Rattle.quota_units.specs.declared.totals.Totals.{Totals}
@@ -29,7 +30,8 @@ totals_at totals root = slice_index_or totals root (record { octets = 0; count =
 
 -- the message fits each root of the set
 abbrev pub FitsEach : List LimitNumbers → List Totals → List ℕ → ℕ → Type 0
-FitsEach limits totals roots octets = All (λ root. IsTrue (fits_root (limits_at limits root) (totals_at totals root) octets)) roots
+FitsEach limits totals roots octets =
+    All (λ root. IsTrue (fits_root (limits_at limits root) (totals_at totals root) octets)) roots
 
 -- the resource of which the root would have too much, storage before messages
 abbrev pub over : LimitNumbers → Totals → ℕ → Option Resource
@@ -40,7 +42,8 @@ over limits totals octets =
 -- the roots of the set that the message does not fit, in order, each with its resource
 abbrev pub all_over : List LimitNumbers → List Totals → List ℕ → ℕ → List (ℕ × Resource)
 all_over limits totals roots octets =
-    filter_map (λ root. option_map (λ resource. (root, resource)) (over (limits_at limits root) (totals_at totals root) octets)) roots
+    filter_map (λ root. option_map (λ resource. (root, resource))
+    (over (limits_at limits root) (totals_at totals root) octets)) roots
 
 -- the first of them
 abbrev pub first_over : List LimitNumbers → List Totals → List ℕ → ℕ → Option (ℕ × Resource)

@@ -15,8 +15,9 @@ pub enum Verdict {
 
 /// Whether a message of so many octets fits the limits of these roots (RFC 9208, section 4.3.1).
 ///
-/// `limits` and `totals` have an item for each root, by its number. Where the message does not fit, the first root
-/// that it does not fit is named, and for it storage before messages. What equals a limit is within it.
+/// `limits` and `totals` have an item for each root, by its number. Where the message does not fit,
+/// the first root that it does not fit is named, and for it storage before messages. What equals a
+/// limit is within it.
 #[tactic(auto, using(crate::proofs::FirstLemmas::fits_each, crate::proofs::FirstLemmas::fits_not_each))]
 pub fn admit(limits: &[Limits], totals: &[Totals], roots: RootSet, octets: u64) -> Verdict
     requires same { length limits.now ≡ length totals.now }
@@ -24,9 +25,10 @@ pub fn admit(limits: &[Limits], totals: &[Totals], roots: RootSet, octets: u64) 
     requires small { All (λ total. (total.octets < 2 ^ 62) × (total.count < 2 ^ 62)) totals.now }
     requires small_message { octets < 2 ^ 62 }
     ensures fits { (result ≡ Verdict.Fits) ↔ FitsEach limits.now totals.now roots octets }
-    ensures none_over { (result ≡ Verdict.Fits) ↔ (first_over limits.now totals.now roots octets ≡ None) }
-    ensures over { (root : ℕ) (resource : Resource)
-        → (result ≡ Verdict.Over root resource) ↔ (first_over limits.now totals.now roots octets ≡ Some (root, resource)) }
+    ensures none_over { (result ≡ Verdict.Fits)
+        ↔ (first_over limits.now totals.now roots octets ≡ None) }
+    ensures over { (root : ℕ) (resource : Resource) → (result ≡ Verdict.Over root resource)
+        ↔ (first_over limits.now totals.now roots octets ≡ Some (root, resource)) }
 {
     for root in 0..MAX_ROOTS {
         if roots.has(root)

@@ -25,7 +25,8 @@ word_of letters = word_named (map to_ascii_lowercase letters)
 
 -- these bytes, where they are a tag
 abbrev pub checked_tag : List ℕ → Reader (List ℕ)
-checked_tag bytes = if nat_lt 0 (length bytes) && nat_le (length bytes) 64 then gives bytes else fails
+checked_tag bytes =
+    if nat_lt 0 (length bytes) && nat_le (length bytes) 64 then gives bytes else fails
 
 -- a space, a name and the line's end
 abbrev pub name_alone : Reader (List ℕ)

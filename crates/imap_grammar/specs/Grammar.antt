@@ -1,4 +1,5 @@
--- The commands that are built, apart from how they are read: a tag, a space, the command's word and arguments, and the line's end.
+-- The commands that are built, apart from how they are read: a tag, a space, the command's word and
+-- arguments, and the line's end.
 use Rattle.std.specs.Prelude.{◌≡◌, ◌<◌, ◌≤◌, ◌⊎◌, ℕ, Bool, IsTrue, List, [], ◌∷◌, ◌++◌, length, map, codes}
 use Rattle.std.specs.List.{list_all}
 use Rattle.std.specs.Char.{to_ascii_lowercase, is_ascii_digit}
@@ -34,7 +35,8 @@ pub record IsPlain (bytes : List ℕ) : Type 0 where
   pub some : 0 < length bytes
   pub each : IsTrue (list_all is_astring_byte bytes)
 
--- bytes between quotes, with a \ before " and \ (RFC 9051, section 9: quoted; bytes above 127 are let through)
+-- bytes between quotes, with a \ before " and \ (RFC 9051, section 9: quoted; bytes above 127 are
+-- let through)
 pub record IsQuoted (bytes value : List ℕ) : Type 0 where
   pub each : IsTrue (list_all is_quotable value)
   pub spelled : bytes ≡ quoted value
@@ -53,34 +55,43 @@ pub record IsNumber (bytes : List ℕ) (number : ℕ) : Type 0 where
 
 -- a resource's name, a space and the limit (RFC 9208, formal syntax: setquota-resource)
 abbrev pub IsAskedLimit : List ℕ → AskedLimit → Type 0
-IsAskedLimit bytes asked = (name number : List ℕ) × IsPlain name × IsNumber number asked.limit × (asked.resource ≡ resource_of name) × (bytes ≡ name ++ 32 ∷ number)
+IsAskedLimit bytes asked = (name number : List ℕ) × IsPlain name × IsNumber number asked.limit
+    × (asked.resource ≡ resource_of name) × (bytes ≡ name ++ 32 ∷ number)
 
 -- limits, each behind a space
 abbrev pub IsMoreLimits : List ℕ → List AskedLimit → Type 0
 IsMoreLimits bytes [] = bytes ≡ []
-IsMoreLimits bytes (x ∷ xs) = (own more : List ℕ) × IsAskedLimit own x × IsMoreLimits more xs × (bytes ≡ 32 ∷ (own ++ more))
+IsMoreLimits bytes (x ∷ xs) = (own more : List ℕ) × IsAskedLimit own x × IsMoreLimits more xs
+    × (bytes ≡ 32 ∷ (own ++ more))
 
 -- any number of limits, separated by spaces
 abbrev pub IsLimits : List ℕ → List AskedLimit → Type 0
 IsLimits bytes [] = bytes ≡ []
-IsLimits bytes (x ∷ xs) = (own more : List ℕ) × IsAskedLimit own x × IsMoreLimits more xs × (bytes ≡ own ++ more)
+IsLimits bytes (x ∷ xs) = (own more : List ℕ) × IsAskedLimit own x × IsMoreLimits more xs
+    × (bytes ≡ own ++ more)
 
 -- a word, a space and a name
 abbrev pub NamesOne : List ℕ → List ℕ → List ℕ → Type 0
-NamesOne letters body name = (word bytes : List ℕ) × IsWord letters word × IsAstring bytes name × (body ≡ word ++ 32 ∷ bytes)
+NamesOne letters body name = (word bytes : List ℕ) × IsWord letters word × IsAstring bytes name
+    × (body ≡ word ++ 32 ∷ bytes)
 
 -- a word, a space, a name, a space and limits in parentheses
 abbrev pub NamesLimits : List ℕ → List ℕ → List ℕ → List AskedLimit → Type 0
 NamesLimits letters body name limits =
-    (word bytes list : List ℕ) × IsWord letters word × IsAstring bytes name × IsLimits list limits × (body ≡ word ++ 32 ∷ (bytes ++ 32 ∷ 40 ∷ (list ++ 41 ∷ [])))
+    (word bytes list : List ℕ) × IsWord letters word × IsAstring bytes name × IsLimits list limits
+    × (body ≡ word ++ 32 ∷ (bytes ++ 32 ∷ 40 ∷ (list ++ 41 ∷ [])))
 
--- the word and the arguments of a command that is allowed with login or without it (RFC 9208, formal syntax: getquota, getquotaroot, setquota; RFC 9051, section 9: logout)
+-- the word and the arguments of a command that is allowed with login or without it (RFC 9208,
+-- formal syntax: getquota, getquotaroot, setquota; RFC 9051, section 9: logout)
 abbrev pub IsBody : (login : Bool) → List ℕ → Command → Type 0
 IsBody login body (GetQuota root) = IsTrue login × NamesOne (codes "getquota") body root
-IsBody login body (GetQuotaRoot mailbox) = IsTrue login × NamesOne (codes "getquotaroot") body mailbox
-IsBody login body (SetQuota root limits) = IsTrue login × NamesLimits (codes "setquota") body root limits
+IsBody login body (GetQuotaRoot mailbox) = IsTrue login
+    × NamesOne (codes "getquotaroot") body mailbox
+IsBody login body (SetQuota root limits) = IsTrue login
+    × NamesLimits (codes "setquota") body root limits
 IsBody login body Logout = IsWord (codes "logout") body
 
 -- the bytes are this command with this tag, and no more
 abbrev pub IsCommand : (login : Bool) → List ℕ → Tagged → Type 0
-IsCommand login bytes tagged = (body end : List ℕ) × IsTag tagged.tag × IsBody login body tagged.command × IsLineEnd end × (bytes ≡ tagged.tag ++ 32 ∷ (body ++ end))
+IsCommand login bytes tagged = (body end : List ℕ) × IsTag tagged.tag
+    × IsBody login body tagged.command × IsLineEnd end × (bytes ≡ tagged.tag ++ 32 ∷ (body ++ end))

@@ -9,7 +9,8 @@ max_number = 9223372036854775807
 
 -- a digit may follow so many that make this number
 abbrev pub takes_digit : (come value : ℕ) → ℕ → Bool
-takes_digit come value b = is_ascii_digit b && (nat_lt come 19 && nat_le (value * 10 + (b - 48)) max_number)
+takes_digit come value b =
+    is_ascii_digit b && (nat_lt come 19 && nat_le (value * 10 + (b - 48)) max_number)
 
 -- the number ends after so many digits, of which there must be one
 abbrev pub number_ends : (come value : ℕ) → List ℕ → Reading ℕ
@@ -19,7 +20,9 @@ number_ends (suc come) value rest = got value rest
 -- further digits behind so many that make this number
 abbrev pub digits : (come value : ℕ) → Reader ℕ
 digits come value [] = short
-digits come value (b ∷ bs) = if takes_digit come value b then digits (come + 1) (value * 10 + (b - 48)) bs else number_ends come value (b ∷ bs)
+digits come value (b ∷ bs) =
+    if takes_digit come value b then digits (come + 1) (value * 10 + (b - 48)) bs
+    else number_ends come value (b ∷ bs)
 
 abbrev pub number : Reader ℕ
 number = digits 0 0

@@ -1,4 +1,5 @@
--- How a name is printed: RFC 9051, section 9, astring. Which of its forms is taken is this project's own.
+-- How a name is printed: RFC 9051, section 9, astring. Which of its forms is taken is this
+-- project's own.
 use Rattle.std.specs.Prelude.{ℕ, Bool, ◌&&◌, nat_lt, if◌then◌else◌, List, [], ◌∷◌, ◌++◌, length, codes}
 use Rattle.std.specs.List.{list_all, flat_map}
 use Rattle.std.specs.Fmt.{decimal}
@@ -24,4 +25,5 @@ abbrev pub literal : List ℕ → List ℕ
 literal name = codes "{" ++ (decimal (length name) ++ (codes "}\r\n" ++ name))
 
 abbrev pub printed : List ℕ → List ℕ
-printed name = if is_plain name then name else if is_printable_text name then quoted name else literal name
+printed name =
+    if is_plain name then name else if is_printable_text name then quoted name else literal name

@@ -32,13 +32,13 @@ pub enum CommandFault {
     NoMemory,
 }
 
-/// The command that a text is, from its tag to its line's end. `login` says whether the session is logged in: only then
-/// are there other commands than LOGOUT.
+/// The command that a text is, from its tag to its line's end. `login` says whether the session is
+/// logged in: only then are there other commands than LOGOUT.
 ///
 /// # Errors
 ///
-/// `NotBuilt` where the text is none of the commands GETQUOTA, GETQUOTAROOT, SETQUOTA and LOGOUT, or names a root or a
-/// mailbox by a literal; or `NoMemory`.
+/// `NotBuilt` where the text is none of the commands GETQUOTA, GETQUOTAROOT, SETQUOTA and LOGOUT,
+/// or names a root or a mailbox by a literal; or `NoMemory`.
 pub fn read_command(alloc: Global, text: &[u8], login: bool) -> Result<Command, CommandFault>
     ensures command { IfOk result (λ command. (tag : List ℕ) × IsCommand login text.now
         (record { tag = tag; command = command })) }

@@ -1,4 +1,5 @@
-//! The command lines of IMAP (RFC 9051, section 9, and RFC 9208): readers of their parts, and of a whole command.
+//! The command lines of IMAP (RFC 9051, section 9, and RFC 9208): readers of their parts, and of a
+//! whole command.
 #![tactic(auto)]
 
 mod astring;

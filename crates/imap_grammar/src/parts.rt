@@ -94,7 +94,8 @@ fn arguments<'a>(
     text: &'a [u8],
     login: bool,
 ) -> Result<(Command, &'a [u8]), Stop>
-    ensures { Gives (λ x. x.0) (λ x. x.1.now) result (arguments_of login (word_of letters.now) text.now) }
+    ensures { Gives (λ x. x.0) (λ x. x.1.now) result
+        (arguments_of login (word_of letters.now) text.now) }
 {
     match word_of(letters) {
         Some(word) if is_allowed(word, login) => arguments_behind(alloc, word, text),
@@ -104,7 +105,8 @@ fn arguments<'a>(
 
 /// A tag, a command that is allowed, and the rest.
 pub fn tagged(alloc: Global, text: &[u8], login: bool) -> Result<(&[u8], Command, &[u8]), Stop>
-    ensures { Gives (λ x. record { tag = x.0.now; command = x.1 }) (λ x. x.2.now) result (command_at login text.now) }
+    ensures { Gives (λ x. record { tag = x.0.now; command = x.1 }) (λ x. x.2.now) result
+        (command_at login text.now) }
 {
     let (tag, rest) = tag(text)?;
     let ((), rest) = byte(rest, b' ')?;

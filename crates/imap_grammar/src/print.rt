@@ -53,8 +53,9 @@ fn push_escaped(out: &mut Vec<u8>, bytes: &[u8]) -> Result<(), AllocError>
     Ok(())
 }
 
-/// Appends a name of a quota root or a mailbox as a client reads it (RFC 9051, section 9: astring): plainly where all its
-/// bytes may stand so, quoted where they are printing ASCII and spaces, and else as a literal.
+/// Appends a name of a quota root or a mailbox as a client reads it (RFC 9051, section 9: astring):
+/// plainly where all its bytes may stand so, quoted where they are printing ASCII and spaces, and
+/// else as a literal.
 ///
 /// # Errors
 ///

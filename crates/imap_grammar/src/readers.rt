@@ -1,4 +1,5 @@
-// Readers of the parts of a command: each reads what it names at the front of a text, and gives the rest.
+// Readers of the parts of a command: each reads what it names at the front of a text, and gives the
+// rest.
 ghost use Rattle.std.specs.Prelude.{◌≡◌};
 ghost use Rattle.imap_grammar.specs.Reading.{Gives, byte, many, line_end};
 ghost use Rattle.imap_grammar.specs.Bytes.{is_tag_byte, is_astring_byte, is_letter};

@@ -1,4 +1,5 @@
--- The calls of a keeper, by their result: what they answer, and what they do to what the keeper tells.
+-- The calls of a keeper, by their result: what they answer, and what they do to what the keeper
+-- tells.
 use Rattle.std.specs.Prelude.{◌≡◌, ◌≢◌, ◌+◌, ◌≤◌, ◌<◌, ℕ, Vec, List, [], ◌∷◌, ◌++◌, Option, Some, None, Result, Ok, Err, ⊤}
 use Rattle.std.specs.Option.{option_map}
 use Rattle.keeper.specs.declared.rows.FileRow.{FileRow}
@@ -16,7 +17,8 @@ Changes R None (Some new) = ⊥
 Changes R (Some old) None = ⊥
 Changes R (Some old) (Some new) = R old new
 
--- a failure is one of those that were due, and the count of faults with the failures due never grows
+-- a failure is one of those that were due, and the count of faults with the failures due never
+-- grows
 pub record Spends (failed : Type 0) (before now : ℕ) (told told' : Told) : Type 0 where
   pub fewer : failed → told'.due < told.due
   pub bounded : now + told'.due ≤ before + told.due
@@ -33,28 +35,38 @@ OnFiles R told told' = R told.files told'.files
 
 -- list: the files of the mailbox
 abbrev pub Lists : {A E : Type 0} → List ℕ → Result (Vec FileRow A) E → Told → Told → Type 0
-Lists mailbox (Ok found) told told' = (found.items ≡ listed mailbox told.files.rows) × (told'.files ≡ told.files)
+Lists mailbox (Ok found) told told' = (found.items ≡ listed mailbox told.files.rows)
+    × (told'.files ≡ told.files)
 Lists mailbox (Err e) told told' = told'.files ≡ told.files
 
 -- put: one more row at the end
 abbrev pub Puts : {T E : Type 0} → List ℕ → List ℕ → List ℕ → Result T E → Told → Told → Type 0
 Puts mailbox name octets (Ok done) told told' =
-    told'.files ≡ record told.files { rows = told.files.rows ++ record { mailbox = mailbox; name = name; octets = octets } ∷ [] }
+    told'.files ≡ record told.files {
+      rows =
+          told.files.rows ++ record { mailbox = mailbox; name = name; octets = octets } ∷ [];
+    }
 Puts mailbox name octets (Err e) told told' = told'.files ≡ told.files
 
 -- rename: the row has this mailbox and name now
-abbrev pub Renames : {T E : Type 0} → List ℕ → List ℕ → List ℕ → List ℕ → Result T E → Told → Told → Type 0
-Renames from name to new_name (Ok done) told told' = told'.files ≡ record told.files { rows = renamed from name to new_name told.files.rows }
+abbrev pub Renames : {T E : Type 0} → List ℕ → List ℕ → List ℕ → List ℕ → Result T E → Told → Told
+    → Type 0
+Renames from name to new_name (Ok done) told told' = told'.files ≡ record told.files {
+  rows = renamed from name to new_name told.files.rows;
+}
 Renames from name to new_name (Err e) told told' = told'.files ≡ told.files
 
 -- remove: the row is gone, and the others keep their order
 abbrev pub Removes : {T E : Type 0} → List ℕ → List ℕ → Result T E → Told → Told → Type 0
-Removes mailbox name (Ok done) told told' = told'.files ≡ record told.files { rows = removed mailbox name told.files.rows }
+Removes mailbox name (Ok done) told told' = told'.files ≡ record told.files {
+  rows = removed mailbox name told.files.rows;
+}
 Removes mailbox name (Err e) told told' = told'.files ≡ told.files
 
 -- read_ledger: the ledger's bytes, where there is one
 abbrev pub Reads : {A E : Type 0} → ℕ → Result (Option (Vec ℕ A)) E → Told → Told → Type 0
-Reads root (Ok found) told told' = (option_map (λ bytes. bytes.items) found ≡ ledger_at told.files root) × (told'.files ≡ told.files)
+Reads root (Ok found) told told' = (option_map (λ bytes. bytes.items) found
+    ≡ ledger_at told.files root) × (told'.files ≡ told.files)
 Reads root (Err e) told told' = told'.files ≡ told.files
 
 -- all but the ledger of this root stays
@@ -68,11 +80,13 @@ Writes root bytes files files' = OneLedger root files files' × (ledger_at files
 
 -- a front of the line stands behind the ledger's bytes, and all else stays
 abbrev pub Tears : ℕ → List ℕ → Files → Files → Type 0
-Tears root line files files' = OneLedger root files files' × ((front rest : List ℕ) × (line ≡ front ++ rest) × (ledger_bytes files' root ≡ ledger_bytes files root ++ front))
+Tears root line files files' = OneLedger root files files' × ((front rest : List ℕ)
+    × (line ≡ front ++ rest) × (ledger_bytes files' root ≡ ledger_bytes files root ++ front))
 
 -- append_ledger: the line stands behind the ledger's bytes, or a front of it where the call failed
 abbrev pub Appends : {T E : Type 0} → ℕ → List ℕ → Result T E → Told → Told → Type 0
-Appends root line (Ok done) told told' = Writes root (ledger_bytes told.files root ++ line) told.files told'.files
+Appends root line (Ok done) told told' =
+    Writes root (ledger_bytes told.files root ++ line) told.files told'.files
 Appends root line (Err e) told told' = Tears root line told.files told'.files
 
 -- install_ledger: the text takes the place of the ledger's bytes

@@ -1,4 +1,5 @@
--- The files of an account: its message files, in the mailboxes of a Maildir++ tree, and the ledgers of its quota roots.
+-- The files of an account: its message files, in the mailboxes of a Maildir++ tree, and the ledgers
+-- of its quota roots.
 use Rattle.std.specs.Prelude.{◌≡◌, ℕ, ◌-◌, Bool, ◌&&◌, Vec, replicate, if◌then◌else◌, List, [], ◌∷◌, ◌++◌, length, map, filter, slice_index_or, bytes_eq, Option, Some, None}
 use Rattle.std.specs.List.{list_any}
 use Rattle.std.specs.Option.{option_map}
@@ -36,13 +37,16 @@ listed mailbox rows = map file_of (filter (is_in mailbox) rows)
 -- without the first row of this mailbox and name
 abbrev pub removed : List ℕ → List ℕ → List Row → List Row
 removed mailbox name [] = []
-removed mailbox name (row ∷ rows) = if is_named mailbox name row then rows else row ∷ removed mailbox name rows
+removed mailbox name (row ∷ rows) =
+    if is_named mailbox name row then rows else row ∷ removed mailbox name rows
 
--- with another mailbox and name for the first row of this mailbox and name, which keeps its place and its octets
+-- with another mailbox and name for the first row of this mailbox and name, which keeps its place
+-- and its octets
 abbrev pub renamed : List ℕ → List ℕ → List ℕ → List ℕ → List Row → List Row
 renamed from name to new_name [] = []
 renamed from name to new_name (row ∷ rows) =
-    if is_named from name row then record row { mailbox = to; name = new_name } ∷ rows else row ∷ renamed from name to new_name rows
+    if is_named from name row then record row { mailbox = to; name = new_name } ∷ rows
+    else row ∷ renamed from name to new_name rows
 
 -- the ledger of a root
 abbrev pub ledger_at : Files → ℕ → Option (List ℕ)
@@ -62,7 +66,8 @@ ButLedgers files files' = files' ≡ record files { ledgers = files'.ledgers }
 
 -- the ledgers of four roots: these, and none for each that is missing
 abbrev pub four_ledgers : {A : Type 0} → List (Option (Vec ℕ A)) → List (Option (List ℕ))
-four_ledgers given = map (option_map (λ bytes. bytes.items)) given ++ replicate (4 - length given) None
+four_ledgers given =
+    map (option_map (λ bytes. bytes.items)) given ++ replicate (4 - length given) None
 
 -- no message file, and no ledger
 abbrev pub no_files : Files

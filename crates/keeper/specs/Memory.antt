@@ -21,7 +21,8 @@ pub record FixedKeeper : Type 0 where
 abbrev pub told_of_fixed : FixedKeeper → Told
 told_of_fixed keeper = record { files = keeper.files; due = 0 }
 
--- stores of keepers in memory: each account's name and its keeper, where it is not open, and how often a call failed
+-- stores of keepers in memory: each account's name and its keeper, where it is not open, and how
+-- often a call failed
 pub record MemStores : Type 0 where
   pub accounts : List (List ℕ × Option MemKeeper)
   pub faults : ℕ

@@ -1,4 +1,5 @@
--- The calls of a keeper in memory that are to fail. A call is known by its kind and by its number among those of its kind, from 1 on.
+-- The calls of a keeper in memory that are to fail. A call is known by its kind and by its number
+-- among those of its kind, from 1 on.
 use Rattle.std.specs.Prelude.{ℕ, Bool, true, false, not, ◌&&◌, nat_eq, List, filter, if◌then◌else◌}
 use Rattle.std.specs.List.{list_any}
 use Rattle.quota_units.specs.Causes.{next_count}
@@ -18,7 +19,15 @@ pub record Planned : Type 0 where
 abbrev pub new_plan : List KeepFail → Planned
 new_plan fails = record {
   fails = fails;
-  made = record { list = 0; put = 0; rename = 0; remove = 0; read_ledger = 0; append_ledger = 0; install_ledger = 0 };
+  made = record {
+    list = 0;
+    put = 0;
+    rename = 0;
+    remove = 0;
+    read_ledger = 0;
+    append_ledger = 0;
+    install_ledger = 0;
+  };
   faults = 0;
   append_faults = 0;
 }

@@ -35,7 +35,8 @@ impl MemFiles {
         ledgers: Vec<Option<Vec<u8>>>,
     ) -> Result<MemFiles, AllocError>
         requires { vec_len ledgers ≤ 4 }
-        ensures { IfOk result (λ files. files ≡ record { rows = rows.items; ledgers = four_ledgers ledgers.items }) }
+        ensures { IfOk result
+            (λ files. files ≡ record { rows = rows.items; ledgers = four_ledgers ledgers.items }) }
     {
         Ok(MemFiles {
             rows: kept_rows(alloc, rows)?,
@@ -58,7 +59,10 @@ impl MemFiles {
         name: &[u8],
         octets: &[u8],
     ) -> Result<(), AllocError>
-        ensures ok { OnOk result (self.new ≡ record self.old { rows = self.old.rows ++ record { mailbox = mailbox.now; name = name.now; octets = octets.now } ∷ [] }) }
+        ensures ok { OnOk result (self.new ≡ record self.old {
+          rows = self.old.rows
+              ++ record { mailbox = mailbox.now; name = name.now; octets = octets.now } ∷ [];
+        }) }
         ensures err { OnErr result (self.new ≡ self.old) }
     {
         put(alloc, &mut self.rows, mailbox, name, octets)
@@ -73,7 +77,10 @@ impl MemFiles {
         to: &[u8],
         new_name: &[u8],
     ) -> Result<(), AllocError>
-        ensures ok { OnOk result (self.new ≡ record self.old { rows = renamed from.now name.now to.now new_name.now self.old.rows }) }
+        ensures ok { OnOk result (self.new ≡ record self.old {
+          rows =
+              renamed from.now name.now to.now new_name.now self.old.rows;
+        }) }
         ensures err { OnErr result (self.new ≡ self.old) }
     {
         rename(alloc, &mut self.rows, from, name, to, new_name)
@@ -93,7 +100,8 @@ impl MemFiles {
         root: u32,
     ) -> Result<Option<Vec<u8>>, AllocError>
         requires { root < 4 }
-        ensures { IfOk result (λ found. option_map (λ bytes. bytes.items) found ≡ ledger_at self.now root) }
+        ensures { IfOk result
+            (λ found. option_map (λ bytes. bytes.items) found ≡ ledger_at self.now root) }
     {
         self.ledgers[root as usize].read(alloc)
     }
@@ -119,7 +127,8 @@ impl MemFiles {
 
 /// The ledgers of this list, to be kept.
 fn kept_ledgers(alloc: Global, given: Vec<Option<Vec<u8>>>) -> Result<Vec<Ledger>, AllocError>
-    ensures { IfOk result (λ ledgers. ledgers.items ≡ map (option_map (λ bytes. bytes.items)) given.items) }
+    ensures { IfOk result
+        (λ ledgers. ledgers.items ≡ map (option_map (λ bytes. bytes.items)) given.items) }
 {
     let mut ledgers = Vec::new(alloc);
     for ledger in given {
@@ -131,7 +140,8 @@ fn kept_ledgers(alloc: Global, given: Vec<Option<Vec<u8>>>) -> Result<Vec<Ledger
 /// Four ledgers: these, and those that are missing, which are not there.
 #[tactic(auto, using(std::proofs::lemmas::Grind::replicate_next, std::proofs::lemmas::List::append_assoc))]
 fn filled(alloc: Global, mut ledgers: Vec<Ledger>) -> Result<Vec<Ledger>, AllocError>
-    ensures { IfOk result (λ four. four.items ≡ ledgers.items ++ replicate (4 - length ledgers.items) None) }
+    ensures { IfOk result
+        (λ four. four.items ≡ ledgers.items ++ replicate (4 - length ledgers.items) None) }
 {
     let missing = 4usize.saturating_sub(ledgers.len());
     for _ in 0..missing {

@@ -26,7 +26,8 @@ impl Model for FixedKeeper {
 }
 
 impl FixedKeeper {
-    /// A keeper without message files and ledgers. It reserves 5120 bytes per ledger, so that appends and installs take no memory.
+    /// A keeper without message files and ledgers. It reserves 5120 bytes per ledger, so that
+    /// appends and installs take no memory.
     ///
     /// # Errors
     ///
@@ -51,9 +52,11 @@ impl Keeper for FixedKeeper {
     ghost lists = { λ k. k.lists };
 
     fn list(&mut self, alloc: Global, mailbox: &[u8]) -> Result<Vec<FileRow>, KeepError>
-        ensures files { Changes (Lists mailbox.now result) (Some (told_of_fixed self.old)) (Some (told_of_fixed self.new)) }
+        ensures files { Changes (Lists mailbox.now result) (Some (told_of_fixed self.old))
+            (Some (told_of_fixed self.new)) }
         ensures cause { HasCause (IsErrOf result KeepError.Failed) 0 0 }
-        ensures due { Changes (Spends (IsErrOf result KeepError.Failed) 0 0) (Some (told_of_fixed self.old)) (Some (told_of_fixed self.new)) }
+        ensures due { Changes (Spends (IsErrOf result KeepError.Failed) 0 0)
+            (Some (told_of_fixed self.old)) (Some (told_of_fixed self.new)) }
         ensures listings { self.new.lists ≡ next_count self.old.lists }
         ensures works { result ≢ Err KeepError.Failed }
     {
@@ -68,9 +71,11 @@ impl Keeper for FixedKeeper {
         name: &[u8],
         octets: &[u8],
     ) -> Result<(), KeepError>
-        ensures files { Changes (Puts mailbox.now name.now octets.now result) (Some (told_of_fixed self.old)) (Some (told_of_fixed self.new)) }
+        ensures files { Changes (Puts mailbox.now name.now octets.now result)
+            (Some (told_of_fixed self.old)) (Some (told_of_fixed self.new)) }
         ensures cause { HasCause (IsErrOf result KeepError.Failed) 0 0 }
-        ensures due { Changes (Spends (IsErrOf result KeepError.Failed) 0 0) (Some (told_of_fixed self.old)) (Some (told_of_fixed self.new)) }
+        ensures due { Changes (Spends (IsErrOf result KeepError.Failed) 0 0)
+            (Some (told_of_fixed self.old)) (Some (told_of_fixed self.new)) }
         ensures listings { self.new.lists ≡ self.old.lists }
         ensures works { result ≢ Err KeepError.Failed }
     {
@@ -85,9 +90,11 @@ impl Keeper for FixedKeeper {
         to: &[u8],
         new_name: &[u8],
     ) -> Result<(), KeepError>
-        ensures files { Changes (Renames from.now name.now to.now new_name.now result) (Some (told_of_fixed self.old)) (Some (told_of_fixed self.new)) }
+        ensures files { Changes (Renames from.now name.now to.now new_name.now result)
+            (Some (told_of_fixed self.old)) (Some (told_of_fixed self.new)) }
         ensures cause { HasCause (IsErrOf result KeepError.Failed) 0 0 }
-        ensures due { Changes (Spends (IsErrOf result KeepError.Failed) 0 0) (Some (told_of_fixed self.old)) (Some (told_of_fixed self.new)) }
+        ensures due { Changes (Spends (IsErrOf result KeepError.Failed) 0 0)
+            (Some (told_of_fixed self.old)) (Some (told_of_fixed self.new)) }
         ensures listings { self.new.lists ≡ self.old.lists }
         ensures works { result ≢ Err KeepError.Failed }
     {
@@ -95,9 +102,11 @@ impl Keeper for FixedKeeper {
     }
 
     fn remove(&mut self, mailbox: &[u8], name: &[u8]) -> Result<(), Failed>
-        ensures files { Changes (Removes mailbox.now name.now result) (Some (told_of_fixed self.old)) (Some (told_of_fixed self.new)) }
+        ensures files { Changes (Removes mailbox.now name.now result)
+            (Some (told_of_fixed self.old)) (Some (told_of_fixed self.new)) }
         ensures cause { HasCause (IsErr result) 0 0 }
-        ensures due { Changes (Spends (IsErr result) 0 0) (Some (told_of_fixed self.old)) (Some (told_of_fixed self.new)) }
+        ensures due { Changes (Spends (IsErr result) 0 0) (Some (told_of_fixed self.old))
+            (Some (told_of_fixed self.new)) }
         ensures listings { self.new.lists ≡ self.old.lists }
         ensures works { IsOk result }
     {
@@ -107,9 +116,11 @@ impl Keeper for FixedKeeper {
 
     fn read_ledger(&mut self, alloc: Global, root: u32) -> Result<Option<Vec<u8>>, KeepError>
         requires { root < 4 }
-        ensures files { Changes (Reads root result) (Some (told_of_fixed self.old)) (Some (told_of_fixed self.new)) }
+        ensures files { Changes (Reads root result) (Some (told_of_fixed self.old))
+            (Some (told_of_fixed self.new)) }
         ensures cause { HasCause (IsErrOf result KeepError.Failed) 0 0 }
-        ensures due { Changes (Spends (IsErrOf result KeepError.Failed) 0 0) (Some (told_of_fixed self.old)) (Some (told_of_fixed self.new)) }
+        ensures due { Changes (Spends (IsErrOf result KeepError.Failed) 0 0)
+            (Some (told_of_fixed self.old)) (Some (told_of_fixed self.new)) }
         ensures listings { self.new.lists ≡ self.old.lists }
         ensures works { result ≢ Err KeepError.Failed }
     {
@@ -119,9 +130,11 @@ impl Keeper for FixedKeeper {
     fn append_ledger(&mut self, root: u32, line: &[u8]) -> Result<(), Failed>
         requires root { root < 4 }
         requires room { length (ledger_bytes self.old.files root) + length line.now < 5120 }
-        ensures files { Changes (Appends root line.now result) (Some (told_of_fixed self.old)) (Some (told_of_fixed self.new)) }
+        ensures files { Changes (Appends root line.now result) (Some (told_of_fixed self.old))
+            (Some (told_of_fixed self.new)) }
         ensures cause { HasCause (IsErr result) 0 0 }
-        ensures due { Changes (Spends (IsErr result) 0 0) (Some (told_of_fixed self.old)) (Some (told_of_fixed self.new)) }
+        ensures due { Changes (Spends (IsErr result) 0 0) (Some (told_of_fixed self.old))
+            (Some (told_of_fixed self.new)) }
         ensures listings { self.new.lists ≡ self.old.lists }
         ensures works { IsOk result }
     {
@@ -132,9 +145,11 @@ impl Keeper for FixedKeeper {
     fn install_ledger(&mut self, root: u32, text: &[u8]) -> Result<(), Failed>
         requires root { root < 4 }
         requires short { length text.now < 5120 }
-        ensures files { Changes (Installs root text.now result) (Some (told_of_fixed self.old)) (Some (told_of_fixed self.new)) }
+        ensures files { Changes (Installs root text.now result) (Some (told_of_fixed self.old))
+            (Some (told_of_fixed self.new)) }
         ensures cause { HasCause (IsErr result) 0 0 }
-        ensures due { Changes (Spends (IsErr result) 0 0) (Some (told_of_fixed self.old)) (Some (told_of_fixed self.new)) }
+        ensures due { Changes (Spends (IsErr result) 0 0) (Some (told_of_fixed self.old))
+            (Some (told_of_fixed self.new)) }
         ensures listings { self.new.lists ≡ self.old.lists }
         ensures works { IsOk result }
     {

@@ -9,8 +9,9 @@ use std::alloc::Global;
 
 /// Keeps the message files and the ledgers of an account. A ledger has fewer than 5120 bytes.
 ///
-/// A call that fails is counted, and leaves the files as they are; only a failed `append_ledger` may leave a front of its
-/// line. A call that answers `NoMemory` leaves the files and the counts of faults.
+/// A call that fails is counted, and leaves the files as they are; only a failed `append_ledger`
+/// may leave a front of its line. A call that answers `NoMemory` leaves the files and the counts of
+/// faults.
 pub trait Keeper {
     /// The files and how many failures may still come, where the keeper tells.
     ghost told: { Self → Option Told };
@@ -31,8 +32,10 @@ pub trait Keeper {
     /// `Failed` where the store failed, and `NoMemory`.
     fn list(&mut self, alloc: Global, mailbox: &[u8]) -> Result<Vec<FileRow>, KeepError>
         ensures files { Changes (Lists mailbox.now result) (told self.old) (told self.new) }
-        ensures cause { HasCause (IsErrOf result KeepError.Failed) (faults self.old) (faults self.new) }
-        ensures due { Changes (Spends (IsErrOf result KeepError.Failed) (faults self.old) (faults self.new)) (told self.old) (told self.new) }
+        ensures cause { HasCause (IsErrOf result KeepError.Failed) (faults self.old)
+            (faults self.new) }
+        ensures due { Changes (Spends (IsErrOf result KeepError.Failed) (faults self.old)
+            (faults self.new)) (told self.old) (told self.new) }
         ensures appends { append_faults self.new ≡ append_faults self.old }
         ensures listings { lists self.new ≡ next_count (lists self.old) };
 
@@ -49,13 +52,17 @@ pub trait Keeper {
         octets: &[u8],
     ) -> Result<(), KeepError>
         requires { IfSome (told self.old) (λ t. has_row mailbox.now name.now t.files.rows ≡ false) }
-        ensures files { Changes (Puts mailbox.now name.now octets.now result) (told self.old) (told self.new) }
-        ensures cause { HasCause (IsErrOf result KeepError.Failed) (faults self.old) (faults self.new) }
-        ensures due { Changes (Spends (IsErrOf result KeepError.Failed) (faults self.old) (faults self.new)) (told self.old) (told self.new) }
+        ensures files { Changes (Puts mailbox.now name.now octets.now result) (told self.old)
+            (told self.new) }
+        ensures cause { HasCause (IsErrOf result KeepError.Failed) (faults self.old)
+            (faults self.new) }
+        ensures due { Changes (Spends (IsErrOf result KeepError.Failed) (faults self.old)
+            (faults self.new)) (told self.old) (told self.new) }
         ensures appends { append_faults self.new ≡ append_faults self.old }
         ensures listings { lists self.new ≡ lists self.old };
 
-    /// Gives the file `name` of the mailbox `from` the name `new_name` in the mailbox `to`, which has none of that name.
+    /// Gives the file `name` of the mailbox `from` the name `new_name` in the mailbox `to`, which
+    /// has none of that name.
     ///
     /// # Errors
     ///
@@ -68,11 +75,16 @@ pub trait Keeper {
         to: &[u8],
         new_name: &[u8],
     ) -> Result<(), KeepError>
-        requires there { IfSome (told self.old) (λ t. has_row from.now name.now t.files.rows ≡ true) }
-        requires free { IfSome (told self.old) (λ t. has_row to.now new_name.now t.files.rows ≡ false) }
-        ensures files { Changes (Renames from.now name.now to.now new_name.now result) (told self.old) (told self.new) }
-        ensures cause { HasCause (IsErrOf result KeepError.Failed) (faults self.old) (faults self.new) }
-        ensures due { Changes (Spends (IsErrOf result KeepError.Failed) (faults self.old) (faults self.new)) (told self.old) (told self.new) }
+        requires there { IfSome (told self.old)
+            (λ t. has_row from.now name.now t.files.rows ≡ true) }
+        requires free { IfSome (told self.old)
+            (λ t. has_row to.now new_name.now t.files.rows ≡ false) }
+        ensures files { Changes (Renames from.now name.now to.now new_name.now result)
+            (told self.old) (told self.new) }
+        ensures cause { HasCause (IsErrOf result KeepError.Failed) (faults self.old)
+            (faults self.new) }
+        ensures due { Changes (Spends (IsErrOf result KeepError.Failed) (faults self.old)
+            (faults self.new)) (told self.old) (told self.new) }
         ensures appends { append_faults self.new ≡ append_faults self.old }
         ensures listings { lists self.new ≡ lists self.old };
 
@@ -83,9 +95,11 @@ pub trait Keeper {
     /// `Failed` where the store failed.
     fn remove(&mut self, mailbox: &[u8], name: &[u8]) -> Result<(), Failed>
         requires { IfSome (told self.old) (λ t. has_row mailbox.now name.now t.files.rows ≡ true) }
-        ensures files { Changes (Removes mailbox.now name.now result) (told self.old) (told self.new) }
+        ensures files { Changes (Removes mailbox.now name.now result) (told self.old)
+            (told self.new) }
         ensures cause { HasCause (IsErr result) (faults self.old) (faults self.new) }
-        ensures due { Changes (Spends (IsErr result) (faults self.old) (faults self.new)) (told self.old) (told self.new) }
+        ensures due { Changes (Spends (IsErr result) (faults self.old) (faults self.new))
+            (told self.old) (told self.new) }
         ensures appends { append_faults self.new ≡ append_faults self.old }
         ensures listings { lists self.new ≡ lists self.old };
 
@@ -97,23 +111,28 @@ pub trait Keeper {
     fn read_ledger(&mut self, alloc: Global, root: u32) -> Result<Option<Vec<u8>>, KeepError>
         requires { root < 4 }
         ensures files { Changes (Reads root result) (told self.old) (told self.new) }
-        ensures cause { HasCause (IsErrOf result KeepError.Failed) (faults self.old) (faults self.new) }
-        ensures due { Changes (Spends (IsErrOf result KeepError.Failed) (faults self.old) (faults self.new)) (told self.old) (told self.new) }
+        ensures cause { HasCause (IsErrOf result KeepError.Failed) (faults self.old)
+            (faults self.new) }
+        ensures due { Changes (Spends (IsErrOf result KeepError.Failed) (faults self.old)
+            (faults self.new)) (told self.old) (told self.new) }
         ensures appends { append_faults self.new ≡ append_faults self.old }
         ensures listings { lists self.new ≡ lists self.old };
 
-    /// Writes a line behind the bytes of a root's ledger, where it leaves fewer than 5120 bytes. It takes no memory.
+    /// Writes a line behind the bytes of a root's ledger, where it leaves fewer than 5120 bytes. It
+    /// takes no memory.
     ///
     /// # Errors
     ///
-    /// `Failed` where the store failed, which the count of append faults has. A front of the line may be written then, the
-    /// whole line and nothing included.
+    /// `Failed` where the store failed, which the count of append faults has. A front of the line
+    /// may be written then, the whole line and nothing included.
     fn append_ledger(&mut self, root: u32, line: &[u8]) -> Result<(), Failed>
         requires root { root < 4 }
-        requires room { IfSome (told self.old) (λ t. length (ledger_bytes t.files root) + length line.now < 5120) }
+        requires room { IfSome (told self.old)
+            (λ t. length (ledger_bytes t.files root) + length line.now < 5120) }
         ensures files { Changes (Appends root line.now result) (told self.old) (told self.new) }
         ensures cause { HasCause (IsErr result) (append_faults self.old) (append_faults self.new) }
-        ensures due { Changes (Spends (IsErr result) (append_faults self.old) (append_faults self.new)) (told self.old) (told self.new) }
+        ensures due { Changes (Spends (IsErr result) (append_faults self.old)
+            (append_faults self.new)) (told self.old) (told self.new) }
         ensures others { faults self.new ≡ faults self.old }
         ensures listings { lists self.new ≡ lists self.old };
 
@@ -127,7 +146,8 @@ pub trait Keeper {
         requires short { length text.now < 5120 }
         ensures files { Changes (Installs root text.now result) (told self.old) (told self.new) }
         ensures cause { HasCause (IsErr result) (faults self.old) (faults self.new) }
-        ensures due { Changes (Spends (IsErr result) (faults self.old) (faults self.new)) (told self.old) (told self.new) }
+        ensures due { Changes (Spends (IsErr result) (faults self.old) (faults self.new))
+            (told self.old) (told self.new) }
         ensures appends { append_faults self.new ≡ append_faults self.old }
         ensures listings { lists self.new ≡ lists self.old };
 }

@@ -23,7 +23,8 @@ impl Model for KeptRow {
 
 impl KeptRow {
     fn new(alloc: Global, mailbox: &[u8], name: &[u8], octets: &[u8]) -> Result<KeptRow, AllocError>
-        ensures { IfOk result (λ row. row ≡ record { mailbox = mailbox.now; name = name.now; octets = octets.now }) }
+        ensures { IfOk result
+            (λ row. row ≡ record { mailbox = mailbox.now; name = name.now; octets = octets.now }) }
     {
         Ok(KeptRow {
             mailbox: mailbox.to_vec(alloc)?,
@@ -111,7 +112,8 @@ pub(crate) fn put(
     name: &[u8],
     octets: &[u8],
 ) -> Result<(), AllocError>
-    ensures ok { OnOk result (rows.new.items ≡ rows.old.items ++ record { mailbox = mailbox.now; name = name.now; octets = octets.now } ∷ []) }
+    ensures ok { OnOk result (rows.new.items ≡ rows.old.items
+        ++ record { mailbox = mailbox.now; name = name.now; octets = octets.now } ∷ []) }
     ensures err { OnErr result (rows.new.items ≡ rows.old.items) }
 {
     rows.push(KeptRow::new(alloc, mailbox, name, octets)?)?;
@@ -146,7 +148,8 @@ pub(crate) fn rename(
     to: &[u8],
     new_name: &[u8],
 ) -> Result<(), AllocError>
-    ensures ok { OnOk result (rows.new.items ≡ renamed from.now name.now to.now new_name.now rows.old.items) }
+    ensures ok { OnOk result
+        (rows.new.items ≡ renamed from.now name.now to.now new_name.now rows.old.items) }
     ensures err { OnErr result (rows.new.items ≡ rows.old.items) }
 {
     let mailbox = to.to_vec(alloc)?;

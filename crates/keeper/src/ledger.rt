@@ -8,7 +8,8 @@ use std::marker::Model;
 /// A ledger has fewer bytes than this.
 pub(crate) const LEDGER_ROOM: usize = 5120;
 
-/// A ledger in memory, with room for as many bytes as it may have. Contracts see its bytes, where it is there.
+/// A ledger in memory, with room for as many bytes as it may have. Contracts see its bytes, where
+/// it is there.
 #[derive(Debug, Drop)]
 pub(crate) struct Ledger {
     bytes: Vec<u8>,
@@ -22,7 +23,8 @@ impl Model for Ledger {
 
     ghost view = { λ l. if l.exists then Some l.bytes.items else None };
 
-    ghost invariant = { λ l. (5120 ≤ vec_capacity l.bytes) × (l.exists ≡ false → l.bytes.items ≡ []) };
+    ghost invariant = { λ l. (5120 ≤ vec_capacity l.bytes)
+        × (l.exists ≡ false → l.bytes.items ≡ []) };
 }
 
 impl Ledger {

@@ -1,4 +1,5 @@
-//! What keeps the files of an account: the traits of a keeper and of the stores that keepers come from, and both in memory.
+//! What keeps the files of an account: the traits of a keeper and of the stores that keepers come
+//! from, and both in memory.
 #![tactic(auto)]
 
 mod bytes;

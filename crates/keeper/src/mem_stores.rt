@@ -79,13 +79,19 @@ impl Stores for MemStores {
 
     #[tactic(auto, using(crate::proofs::AccountLemmas::without_none))]
     fn open(&mut self, _alloc: Global, account: &[u8]) -> Result<MemKeeper, KeepError>
-        ensures accounts { Changes (Opens (λ kept keeper. (Some (told_of keeper) ≡ Some (told_of kept)) × (keeper.plan.made.list ≡ kept.plan.made.list)) account.now result) (Some self.old.accounts) (Some self.new.accounts) }
-        ensures fresh { IfOk result (λ keeper. (keeper.plan.faults ≡ 0) × (keeper.plan.append_faults ≡ 0)) }
+        ensures accounts { Changes (Opens (λ kept keeper. (Some (told_of keeper) ≡ Some
+            (told_of kept)) × (keeper.plan.made.list ≡ kept.plan.made.list)) account.now result)
+            (Some self.old.accounts) (Some self.new.accounts) }
+        ensures fresh { IfOk result (λ keeper. (keeper.plan.faults ≡ 0)
+            × (keeper.plan.append_faults ≡ 0)) }
         ensures cause { HasCause (IsErrOf result KeepError.Failed) self.old.faults self.new.faults }
-        ensures fails { IsErrOf result KeepError.Failed ↔ (keeper_in account.now self.old.accounts ≡ None) }
+        ensures fails { IsErrOf result KeepError.Failed
+            ↔ (keeper_in account.now self.old.accounts ≡ None) }
         ensures memory { IfErr result (λ e. e ≡ KeepError.Failed) }
-        ensures count { self.new.faults ≡ (if is_some (keeper_in account.now self.old.accounts) then self.old.faults else next_count self.old.faults) }
-        ensures keeper { IfOk result (λ keeper. option_map forgiven (keeper_in account.now self.old.accounts) ≡ Some keeper) }
+        ensures count { self.new.faults ≡ (if is_some (keeper_in account.now self.old.accounts)
+            then self.old.faults else next_count self.old.faults) }
+        ensures keeper { IfOk result (λ keeper.
+            option_map forgiven (keeper_in account.now self.old.accounts) ≡ Some keeper) }
     {
         match take(&mut self.keepers, account) {
             Some(mut keeper) => {
@@ -100,9 +106,11 @@ impl Stores for MemStores {
     }
 
     fn close(&mut self, account: &[u8], keeper: MemKeeper)
-        ensures accounts { Changes (Closes account.now keeper) (Some self.old.accounts) (Some self.new.accounts) }
+        ensures accounts { Changes (Closes account.now keeper) (Some self.old.accounts)
+            (Some self.new.accounts) }
         ensures cause { HasCause (0 < keeper.plan.faults) self.old.faults self.new.faults }
-        ensures count { self.new.faults ≡ (if nat_lt 0 keeper.plan.faults then next_count self.old.faults else self.old.faults) }
+        ensures count { self.new.faults ≡ (if nat_lt 0 keeper.plan.faults
+            then next_count self.old.faults else self.old.faults) }
     {
         if keeper.faults() > 0 {
             self.faults = self.faults.saturating_add(1);

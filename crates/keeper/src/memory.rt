@@ -30,9 +30,11 @@ impl Model for MemKeeper {
 }
 
 impl MemKeeper {
-    /// A keeper of these message files, and of these ledgers of the roots from 0 on, at most four; one that is missing is not there.
+    /// A keeper of these message files, and of these ledgers of the roots from 0 on, at most four;
+    /// one that is missing is not there.
     ///
-    /// It fails the calls that `fails` names. It reserves 5120 bytes per ledger, so that appends and installs take no memory.
+    /// It fails the calls that `fails` names. It reserves 5120 bytes per ledger, so that appends
+    /// and installs take no memory.
     ///
     /// # Errors
     ///
@@ -44,7 +46,13 @@ impl MemKeeper {
         fails: Vec<KeepFail>,
     ) -> Result<MemKeeper, NoMemory>
         requires { vec_len ledgers ≤ 4 }
-        ensures { IfOk result (λ keeper. keeper ≡ record { files = record { rows = rows.items; ledgers = four_ledgers ledgers.items }; plan = new_plan fails.items }) }
+        ensures { IfOk result (λ keeper. keeper ≡ record {
+          files = record {
+            rows = rows.items;
+            ledgers = four_ledgers ledgers.items;
+          };
+          plan = new_plan fails.items;
+        }) }
     {
         Ok(MemKeeper {
             files: MemFiles::new(alloc, rows, ledgers)?,
@@ -61,7 +69,8 @@ impl MemKeeper {
 
     /// Sets both counts of faults to 0.
     pub(crate) fn forget_faults(&mut self)
-        ensures { self.new ≡ record self.old { plan = record self.old.plan { faults = 0; append_faults = 0 } } }
+        ensures { self.new
+            ≡ record self.old { plan = record self.old.plan { faults = 0; append_faults = 0 } } }
     {
         self.plan.forget_faults();
     }
@@ -77,12 +86,16 @@ impl Keeper for MemKeeper {
     ghost lists = { λ k. k.plan.made.list };
 
     fn list(&mut self, alloc: Global, mailbox: &[u8]) -> Result<Vec<FileRow>, KeepError>
-        ensures files { Changes (Lists mailbox.now result) (Some (told_of self.old)) (Some (told_of self.new)) }
-        ensures cause { HasCause (IsErrOf result KeepError.Failed) self.old.plan.faults self.new.plan.faults }
-        ensures due { Changes (Spends (IsErrOf result KeepError.Failed) self.old.plan.faults self.new.plan.faults) (Some (told_of self.old)) (Some (told_of self.new)) }
+        ensures files { Changes (Lists mailbox.now result) (Some (told_of self.old))
+            (Some (told_of self.new)) }
+        ensures cause { HasCause
+            (IsErrOf result KeepError.Failed) self.old.plan.faults self.new.plan.faults }
+        ensures due { Changes (Spends (IsErrOf result KeepError.Failed) self.old.plan.faults
+            self.new.plan.faults) (Some (told_of self.old)) (Some (told_of self.new)) }
         ensures appends { self.new.plan.append_faults ≡ self.old.plan.append_faults }
         ensures listings { self.new.plan.made.list ≡ next_count self.old.plan.made.list }
-        ensures fails { (IsErrOf result KeepError.Failed) ↔ IsTrue (fails_next KeepCall.List self.old.plan) }
+        ensures fails { (IsErrOf result KeepError.Failed)
+            ↔ IsTrue (fails_next KeepCall.List self.old.plan) }
         ensures plan { self.new.plan ≡ plan_after KeepCall.List self.old.plan }
     {
         self.plan.call(KeepCall::List)?;
@@ -96,12 +109,16 @@ impl Keeper for MemKeeper {
         name: &[u8],
         octets: &[u8],
     ) -> Result<(), KeepError>
-        ensures files { Changes (Puts mailbox.now name.now octets.now result) (Some (told_of self.old)) (Some (told_of self.new)) }
-        ensures cause { HasCause (IsErrOf result KeepError.Failed) self.old.plan.faults self.new.plan.faults }
-        ensures due { Changes (Spends (IsErrOf result KeepError.Failed) self.old.plan.faults self.new.plan.faults) (Some (told_of self.old)) (Some (told_of self.new)) }
+        ensures files { Changes (Puts mailbox.now name.now octets.now result)
+            (Some (told_of self.old)) (Some (told_of self.new)) }
+        ensures cause { HasCause
+            (IsErrOf result KeepError.Failed) self.old.plan.faults self.new.plan.faults }
+        ensures due { Changes (Spends (IsErrOf result KeepError.Failed) self.old.plan.faults
+            self.new.plan.faults) (Some (told_of self.old)) (Some (told_of self.new)) }
         ensures appends { self.new.plan.append_faults ≡ self.old.plan.append_faults }
         ensures listings { self.new.plan.made.list ≡ self.old.plan.made.list }
-        ensures fails { (IsErrOf result KeepError.Failed) ↔ IsTrue (fails_next KeepCall.Put self.old.plan) }
+        ensures fails { (IsErrOf result KeepError.Failed)
+            ↔ IsTrue (fails_next KeepCall.Put self.old.plan) }
         ensures plan { self.new.plan ≡ plan_after KeepCall.Put self.old.plan }
     {
         self.plan.call(KeepCall::Put)?;
@@ -117,12 +134,16 @@ impl Keeper for MemKeeper {
         to: &[u8],
         new_name: &[u8],
     ) -> Result<(), KeepError>
-        ensures files { Changes (Renames from.now name.now to.now new_name.now result) (Some (told_of self.old)) (Some (told_of self.new)) }
-        ensures cause { HasCause (IsErrOf result KeepError.Failed) self.old.plan.faults self.new.plan.faults }
-        ensures due { Changes (Spends (IsErrOf result KeepError.Failed) self.old.plan.faults self.new.plan.faults) (Some (told_of self.old)) (Some (told_of self.new)) }
+        ensures files { Changes (Renames from.now name.now to.now new_name.now result)
+            (Some (told_of self.old)) (Some (told_of self.new)) }
+        ensures cause { HasCause
+            (IsErrOf result KeepError.Failed) self.old.plan.faults self.new.plan.faults }
+        ensures due { Changes (Spends (IsErrOf result KeepError.Failed) self.old.plan.faults
+            self.new.plan.faults) (Some (told_of self.old)) (Some (told_of self.new)) }
         ensures appends { self.new.plan.append_faults ≡ self.old.plan.append_faults }
         ensures listings { self.new.plan.made.list ≡ self.old.plan.made.list }
-        ensures fails { (IsErrOf result KeepError.Failed) ↔ IsTrue (fails_next KeepCall.Rename self.old.plan) }
+        ensures fails { (IsErrOf result KeepError.Failed)
+            ↔ IsTrue (fails_next KeepCall.Rename self.old.plan) }
         ensures plan { self.new.plan ≡ plan_after KeepCall.Rename self.old.plan }
     {
         self.plan.call(KeepCall::Rename)?;
@@ -131,9 +152,11 @@ impl Keeper for MemKeeper {
     }
 
     fn remove(&mut self, mailbox: &[u8], name: &[u8]) -> Result<(), Failed>
-        ensures files { Changes (Removes mailbox.now name.now result) (Some (told_of self.old)) (Some (told_of self.new)) }
+        ensures files { Changes (Removes mailbox.now name.now result) (Some (told_of self.old))
+            (Some (told_of self.new)) }
         ensures cause { HasCause (IsErr result) self.old.plan.faults self.new.plan.faults }
-        ensures due { Changes (Spends (IsErr result) self.old.plan.faults self.new.plan.faults) (Some (told_of self.old)) (Some (told_of self.new)) }
+        ensures due { Changes (Spends (IsErr result) self.old.plan.faults self.new.plan.faults)
+            (Some (told_of self.old)) (Some (told_of self.new)) }
         ensures appends { self.new.plan.append_faults ≡ self.old.plan.append_faults }
         ensures listings { self.new.plan.made.list ≡ self.old.plan.made.list }
         ensures fails { (IsErr result) ↔ IsTrue (fails_next KeepCall.Remove self.old.plan) }
@@ -146,12 +169,16 @@ impl Keeper for MemKeeper {
 
     fn read_ledger(&mut self, alloc: Global, root: u32) -> Result<Option<Vec<u8>>, KeepError>
         requires { root < 4 }
-        ensures files { Changes (Reads root result) (Some (told_of self.old)) (Some (told_of self.new)) }
-        ensures cause { HasCause (IsErrOf result KeepError.Failed) self.old.plan.faults self.new.plan.faults }
-        ensures due { Changes (Spends (IsErrOf result KeepError.Failed) self.old.plan.faults self.new.plan.faults) (Some (told_of self.old)) (Some (told_of self.new)) }
+        ensures files { Changes (Reads root result) (Some (told_of self.old))
+            (Some (told_of self.new)) }
+        ensures cause { HasCause
+            (IsErrOf result KeepError.Failed) self.old.plan.faults self.new.plan.faults }
+        ensures due { Changes (Spends (IsErrOf result KeepError.Failed) self.old.plan.faults
+            self.new.plan.faults) (Some (told_of self.old)) (Some (told_of self.new)) }
         ensures appends { self.new.plan.append_faults ≡ self.old.plan.append_faults }
         ensures listings { self.new.plan.made.list ≡ self.old.plan.made.list }
-        ensures fails { (IsErrOf result KeepError.Failed) ↔ IsTrue (fails_next KeepCall.ReadLedger self.old.plan) }
+        ensures fails { (IsErrOf result KeepError.Failed)
+            ↔ IsTrue (fails_next KeepCall.ReadLedger self.old.plan) }
         ensures plan { self.new.plan ≡ plan_after KeepCall.ReadLedger self.old.plan }
     {
         self.plan.call(KeepCall::ReadLedger)?;
@@ -162,14 +189,18 @@ impl Keeper for MemKeeper {
     fn append_ledger(&mut self, root: u32, line: &[u8]) -> Result<(), Failed>
         requires root { root < 4 }
         requires room { length (ledger_bytes self.old.files root) + length line.now < 5120 }
-        ensures files { Changes (Appends root line.now result) (Some (told_of self.old)) (Some (told_of self.new)) }
-        ensures cause { HasCause (IsErr result) self.old.plan.append_faults self.new.plan.append_faults }
-        ensures due { Changes (Spends (IsErr result) self.old.plan.append_faults self.new.plan.append_faults) (Some (told_of self.old)) (Some (told_of self.new)) }
+        ensures files { Changes (Appends root line.now result) (Some (told_of self.old))
+            (Some (told_of self.new)) }
+        ensures cause { HasCause
+            (IsErr result) self.old.plan.append_faults self.new.plan.append_faults }
+        ensures due { Changes (Spends (IsErr result) self.old.plan.append_faults
+            self.new.plan.append_faults) (Some (told_of self.old)) (Some (told_of self.new)) }
         ensures others { self.new.plan.faults ≡ self.old.plan.faults }
         ensures listings { self.new.plan.made.list ≡ self.old.plan.made.list }
         ensures fails { (IsErr result) ↔ IsTrue (fails_next KeepCall.AppendLedger self.old.plan) }
         ensures plan { self.new.plan ≡ plan_after KeepCall.AppendLedger self.old.plan }
-        ensures torn { OnErr result (ledger_at self.new.files root ≡ Some (ledger_bytes self.old.files root ++ take (length line.now / 2) line.now)) }
+        ensures torn { OnErr result (ledger_at self.new.files root
+            ≡ Some (ledger_bytes self.old.files root ++ take (length line.now / 2) line.now)) }
     {
         if let Err(fault) = self.plan.call(KeepCall::AppendLedger) {
             self.files.append_ledger(root, &line[..line.len() / 2]);
@@ -182,9 +213,11 @@ impl Keeper for MemKeeper {
     fn install_ledger(&mut self, root: u32, text: &[u8]) -> Result<(), Failed>
         requires root { root < 4 }
         requires short { length text.now < 5120 }
-        ensures files { Changes (Installs root text.now result) (Some (told_of self.old)) (Some (told_of self.new)) }
+        ensures files { Changes (Installs root text.now result) (Some (told_of self.old))
+            (Some (told_of self.new)) }
         ensures cause { HasCause (IsErr result) self.old.plan.faults self.new.plan.faults }
-        ensures due { Changes (Spends (IsErr result) self.old.plan.faults self.new.plan.faults) (Some (told_of self.old)) (Some (told_of self.new)) }
+        ensures due { Changes (Spends (IsErr result) self.old.plan.faults self.new.plan.faults)
+            (Some (told_of self.old)) (Some (told_of self.new)) }
         ensures appends { self.new.plan.append_faults ≡ self.old.plan.append_faults }
         ensures listings { self.new.plan.made.list ≡ self.old.plan.made.list }
         ensures fails { (IsErr result) ↔ IsTrue (fails_next KeepCall.InstallLedger self.old.plan) }

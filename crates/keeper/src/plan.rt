@@ -57,7 +57,15 @@ pub(crate) struct CallCounts {
 impl CallCounts {
     /// No call.
     fn none() -> CallCounts
-        ensures { result ≡ record { list = 0; put = 0; rename = 0; remove = 0; read_ledger = 0; append_ledger = 0; install_ledger = 0 } }
+        ensures { result ≡ record {
+          list = 0;
+          put = 0;
+          rename = 0;
+          remove = 0;
+          read_ledger = 0;
+          append_ledger = 0;
+          install_ledger = 0;
+        } }
     {
         CallCounts {
             list: 0,
@@ -115,7 +123,12 @@ impl Model for Plan {
 
     ghost Value = { Planned };
 
-    ghost view = { λ p. record { fails = p.fails.items; made = p.made; faults = p.faults; append_faults = p.append_faults } };
+    ghost view = { λ p. record {
+      fails = p.fails.items;
+      made = p.made;
+      faults = p.faults;
+      append_faults = p.append_faults;
+    } };
 }
 
 impl Plan {
@@ -151,10 +164,12 @@ impl Plan {
         ensures fails { IsErr result ↔ IsTrue (fails_next kind self.old) }
         ensures after { self.new ≡ plan_after kind self.old }
         ensures made { self.new.made ≡ with_one_more kind self.old.made }
-        ensures cause { HasCause (IsErr result) (faults_of_kind kind self.old) (faults_of_kind kind self.new) }
+        ensures cause { HasCause (IsErr result) (faults_of_kind kind self.old)
+            (faults_of_kind kind self.new) }
         ensures others { other_faults kind self.new ≡ other_faults kind self.old }
         ensures fewer { IsErr result → length self.new.fails < length self.old.fails }
-        ensures bounded { faults_of_kind kind self.new + length self.new.fails ≤ faults_of_kind kind self.old + length self.old.fails }
+        ensures bounded { faults_of_kind kind self.new + length self.new.fails
+            ≤ faults_of_kind kind self.old + length self.old.fails }
     {
         self.made.count(kind);
         let nth = self.made.of(kind);

@@ -14,7 +14,8 @@ path_in folder name = folder ++ (codes "/" ++ name)
 -- the folder of a mailbox: the account's own of INBOX, and `.<mailbox>` in it of another
 -- (Maildir++)
 abbrev pub mailbox_folder : List ℕ → List ℕ → List ℕ
-mailbox_folder account mailbox = if bytes_eq mailbox (codes "INBOX") then account else path_in account (codes "." ++ mailbox)
+mailbox_folder account mailbox =
+    if bytes_eq mailbox (codes "INBOX") then account else path_in account (codes "." ++ mailbox)
 
 -- the folders of a mailbox whose folder this is (Maildir)
 pub record IsMailbox (folder : List ℕ) (mailbox : Mailbox) : Type 0 where
@@ -25,7 +26,8 @@ pub record IsMailbox (folder : List ℕ) (mailbox : Mailbox) : Type 0 where
 
 -- the file name of a root's ledger (Maildir++, for root 0)
 abbrev pub ledger_name : ℕ → List ℕ
-ledger_name root = if nat_eq root 0 then codes "maildirsize" else codes "maildirsize." ++ decimal root
+ledger_name root =
+    if nat_eq root 0 then codes "maildirsize" else codes "maildirsize." ++ decimal root
 
 -- a path that is text and not empty
 abbrev pub is_path : List ℕ → Bool

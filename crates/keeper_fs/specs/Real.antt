@@ -1,4 +1,5 @@
--- Keepers and stores over folders: their counts and where their files are. What the files hold is not told.
+-- Keepers and stores over folders: their counts and where their files are. What the files hold is
+-- not told.
 use Rattle.std.specs.Prelude.{ℕ, List}
 use Rattle.std.specs.String.{string_bytes}
 use Rattle.keeper_fs.specs.declared.fs_keeper.FsKeeper.{FsKeeper}

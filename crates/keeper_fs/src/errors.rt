@@ -5,9 +5,11 @@ use keeper::KeepError;
 use std::io;
 use std::io::ErrorKind;
 
-/// The cause of an error: `NoMemory` where memory was wanted, and `Failed` where the system has failed, whatever it says.
+/// The cause of an error: `NoMemory` where memory was wanted, and `Failed` where the system has
+/// failed, whatever it says.
 pub(crate) fn cause(error: io::Error) -> KeepError
-    ensures { (result ≡ KeepError.NoMemory) ↔ ((error_kind error ≡ ErrorKind.OutOfMemory) × (raw_os_error error ≡ None)) }
+    ensures { (result ≡ KeepError.NoMemory)
+        ↔ ((error_kind error ≡ ErrorKind.OutOfMemory) × (raw_os_error error ≡ None)) }
 {
     if error.kind() == ErrorKind::OutOfMemory && error.raw_os_error().is_none() {
         KeepError::NoMemory

@@ -76,7 +76,8 @@ impl<R: Files + AllocGlobal + Clone + Drop> FsKeeper<R> {
     /// The same answer, with its fault counted.
     fn counted<T>(&mut self, answer: Result<T, KeepError>) -> Result<T, KeepError>
         ensures same { result ≡ answer }
-        ensures cause { HasCause (IsErrOf answer KeepError.Failed) (faults_of self.old) (faults_of self.new) }
+        ensures cause { HasCause (IsErrOf answer KeepError.Failed) (faults_of self.old)
+            (faults_of self.new) }
         ensures appends { append_faults_of self.new ≡ append_faults_of self.old }
         ensures listings { lists_of self.new ≡ lists_of self.old }
         ensures folder { folder_of self.new ≡ folder_of self.old }
@@ -98,7 +99,8 @@ impl<R: Files + AllocGlobal + Clone + Drop> Keeper for FsKeeper<R> {
     ghost lists = { lists_of };
 
     fn list(&mut self, alloc: Global, mailbox: &[u8]) -> Result<Vec<FileRow>, KeepError>
-        ensures cause { HasCause (IsErrOf result KeepError.Failed) (faults_of self.old) (faults_of self.new) }
+        ensures cause { HasCause (IsErrOf result KeepError.Failed) (faults_of self.old)
+            (faults_of self.new) }
         ensures appends { append_faults_of self.new ≡ append_faults_of self.old }
         ensures listings { lists_of self.new ≡ next_count (lists_of self.old) }
         ensures folder { folder_of self.new ≡ folder_of self.old }
@@ -120,12 +122,14 @@ impl<R: Files + AllocGlobal + Clone + Drop> Keeper for FsKeeper<R> {
         name: &[u8],
         octets: &[u8],
     ) -> Result<(), KeepError>
-        ensures cause { HasCause (IsErrOf result KeepError.Failed) (faults_of self.old) (faults_of self.new) }
+        ensures cause { HasCause (IsErrOf result KeepError.Failed) (faults_of self.old)
+            (faults_of self.new) }
         ensures appends { append_faults_of self.new ≡ append_faults_of self.old }
         ensures listings { lists_of self.new ≡ lists_of self.old }
         ensures folder { folder_of self.new ≡ folder_of self.old }
         // Only names that lead to no other folder are written.
-        ensures outside { (is_file_name mailbox.now && is_file_name name.now) ≡ false → IsErrOf result KeepError.Failed }
+        ensures outside { (is_file_name mailbox.now && is_file_name name.now) ≡ false
+            → IsErrOf result KeepError.Failed }
     {
         let answer = messages::put(&self.rt, alloc, self.folder.as_str(), mailbox, name, octets);
         self.counted(answer)
@@ -139,12 +143,14 @@ impl<R: Files + AllocGlobal + Clone + Drop> Keeper for FsKeeper<R> {
         to: &[u8],
         new_name: &[u8],
     ) -> Result<(), KeepError>
-        ensures cause { HasCause (IsErrOf result KeepError.Failed) (faults_of self.old) (faults_of self.new) }
+        ensures cause { HasCause (IsErrOf result KeepError.Failed) (faults_of self.old)
+            (faults_of self.new) }
         ensures appends { append_faults_of self.new ≡ append_faults_of self.old }
         ensures listings { lists_of self.new ≡ lists_of self.old }
         ensures folder { folder_of self.new ≡ folder_of self.old }
         // Only names that lead to no other folder are renamed.
-        ensures outside { (is_file_name from.now && (is_file_name name.now && (is_file_name to.now && is_file_name new_name.now))) ≡ false → IsErrOf result KeepError.Failed }
+        ensures outside { (is_file_name from.now && (is_file_name name.now && (is_file_name to.now
+            && is_file_name new_name.now))) ≡ false → IsErrOf result KeepError.Failed }
     {
         let folder = self.folder.as_str();
         let answer = messages::rename(&self.rt, alloc, folder, from, name, to, new_name);
@@ -157,7 +163,8 @@ impl<R: Files + AllocGlobal + Clone + Drop> Keeper for FsKeeper<R> {
         ensures listings { lists_of self.new ≡ lists_of self.old }
         ensures folder { folder_of self.new ≡ folder_of self.old }
         // Only a name that leads to no other folder is removed.
-        ensures outside { (is_file_name mailbox.now && is_file_name name.now) ≡ false → IsErr result }
+        ensures outside { (is_file_name mailbox.now && is_file_name name.now) ≡ false
+            → IsErr result }
     {
         match messages::remove(
             &self.rt,
@@ -175,7 +182,8 @@ impl<R: Files + AllocGlobal + Clone + Drop> Keeper for FsKeeper<R> {
         requires { root < 4 }
         // A ledger is read to a bound, whatever its file is.
         ensures bound { IfOk result (λ found. IfSome found (λ text. length text.items ≤ 5120)) }
-        ensures cause { HasCause (IsErrOf result KeepError.Failed) (faults_of self.old) (faults_of self.new) }
+        ensures cause { HasCause (IsErrOf result KeepError.Failed) (faults_of self.old)
+            (faults_of self.new) }
         ensures appends { append_faults_of self.new ≡ append_faults_of self.old }
         ensures listings { lists_of self.new ≡ lists_of self.old }
         ensures folder { folder_of self.new ≡ folder_of self.old }
@@ -186,7 +194,8 @@ impl<R: Files + AllocGlobal + Clone + Drop> Keeper for FsKeeper<R> {
 
     fn append_ledger(&mut self, root: u32, line: &[u8]) -> Result<(), Failed>
         requires { root < 4 }
-        ensures cause { HasCause (IsErr result) (append_faults_of self.old) (append_faults_of self.new) }
+        ensures cause { HasCause (IsErr result) (append_faults_of self.old)
+            (append_faults_of self.new) }
         ensures others { faults_of self.new ≡ faults_of self.old }
         ensures listings { lists_of self.new ≡ lists_of self.old }
         ensures folder { folder_of self.new ≡ folder_of self.old }

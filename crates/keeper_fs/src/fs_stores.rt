@@ -77,7 +77,8 @@ fn open_account<R: Files + AllocGlobal + Clock + Clone + Drop>(
     folder: &[u8],
     account: &[u8],
 ) -> Result<FsKeeper<R>, KeepError>
-    ensures fresh { IfOk result (λ keeper. (faults_of keeper ≡ 0) × ((append_faults_of keeper ≡ 0) × (lists_of keeper ≡ 0))) }
+    ensures fresh { IfOk result (λ keeper. (faults_of keeper ≡ 0)
+        × ((append_faults_of keeper ≡ 0) × (lists_of keeper ≡ 0))) }
     ensures folder { IfOk result (λ keeper. folder_of keeper ≡ path_in folder.now account.now) }
     ensures outside { has_folder folder.now account.now ≡ false → IsErrOf result KeepError.Failed }
     ensures only { IsErrOf result KeepError.Failed → has_folder folder.now account.now ≡ false }
@@ -96,14 +97,19 @@ impl<R: Files + AllocGlobal + Clock + Clone + Drop> Stores for FsStores<R> {
     ghost faults = { store_faults_of };
 
     fn open(&mut self, alloc: Global, account: &[u8]) -> Result<FsKeeper<R>, KeepError>
-        ensures fresh { IfOk result (λ keeper. (faults_of keeper ≡ 0) × (append_faults_of keeper ≡ 0)) }
-        ensures cause { HasCause (IsErrOf result KeepError.Failed) (store_faults_of self.old) (store_faults_of self.new) }
+        ensures fresh { IfOk result (λ keeper. (faults_of keeper ≡ 0)
+            × (append_faults_of keeper ≡ 0)) }
+        ensures cause { HasCause (IsErrOf result KeepError.Failed) (store_faults_of self.old)
+            (store_faults_of self.new) }
         ensures listings { IfOk result (λ keeper. lists_of keeper ≡ 0) }
-        ensures account { IfOk result (λ keeper. folder_of keeper ≡ path_in (store_folder_of self.old) account.now) }
+        ensures account { IfOk result
+            (λ keeper. folder_of keeper ≡ path_in (store_folder_of self.old) account.now) }
         // An opening fails exactly where the folder's path is no text or empty, or the name is no
         // file's.
-        ensures outside { has_folder (store_folder_of self.old) account.now ≡ false → IsErrOf result KeepError.Failed }
-        ensures only { IsErrOf result KeepError.Failed → has_folder (store_folder_of self.old) account.now ≡ false }
+        ensures outside { has_folder (store_folder_of self.old) account.now ≡ false
+            → IsErrOf result KeepError.Failed }
+        ensures only { IsErrOf result KeepError.Failed
+            → has_folder (store_folder_of self.old) account.now ≡ false }
         ensures folder { store_folder_of self.new ≡ store_folder_of self.old }
     {
         let opened = open_account(&self.rt, alloc, self.folder.as_slice(), account);
@@ -114,7 +120,8 @@ impl<R: Files + AllocGlobal + Clock + Clone + Drop> Stores for FsStores<R> {
     }
 
     fn close(&mut self, _account: &[u8], keeper: FsKeeper<R>)
-        ensures cause { HasCause (0 < faults_of keeper) (store_faults_of self.old) (store_faults_of self.new) }
+        ensures cause { HasCause (0 < faults_of keeper) (store_faults_of self.old)
+            (store_faults_of self.new) }
         ensures folder { store_folder_of self.new ≡ store_folder_of self.old }
     {
         if keeper.faults() > 0 {

@@ -16,7 +16,8 @@ use std::io::{ErrorKind, Read};
 /// How many bytes of a folder's names are asked for at once.
 const NAMES_AT_ONCE: usize = 32768;
 
-/// The message files of a mailbox: those in `new`, then those in `cur`. A folder that is not there has none.
+/// The message files of a mailbox: those in `new`, then those in `cur`. A folder that is not there
+/// has none.
 pub(crate) fn list<R: Files>(
     rt: &R,
     alloc: Global,
@@ -66,7 +67,8 @@ fn piece_of_names(alloc: Global) -> Result<Vec<u8>, AllocError> {
     vec![in alloc; 0; NAMES_AT_ONCE]
 }
 
-/// Adds the files of these names, each of which ends with a byte 0. Names that begin with `.` are left out.
+/// Adds the files of these names, each of which ends with a byte 0. Names that begin with `.` are
+/// left out.
 #[tactic(auto, using(crate::proofs::RowLemmas::one_more))]
 fn add_names<R: Files>(
     rt: &R,
@@ -92,7 +94,8 @@ fn add_names<R: Files>(
     }
 }
 
-/// The row of a file. Its length is the size that its name states, and where it states none, that of the file.
+/// The row of a file. Its length is the size that its name states, and where it states none, that
+/// of the file.
 fn row_of<R: Files>(rt: &R, alloc: Global, folder: &str, name: &[u8]) -> Result<FileRow, KeepError>
     ensures { IfOk result IsMessageRow }
 {

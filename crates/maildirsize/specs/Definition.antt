@@ -1,6 +1,6 @@
--- The definition line of a ledger (Maildir++): nothing, or members with commas between them. A member is one or
--- more digits and one ASCII letter. S names octets and C messages. Other letters are skipped, and so is any but
--- the last member of a letter.
+-- The definition line of a ledger (Maildir++): nothing, or members with commas between them. A
+-- member is one or more digits and one ASCII letter. S names octets and C messages. Other letters
+-- are skipped, and so is any but the last member of a letter.
 use Rattle.std.specs.Prelude.{ℕ, ◌+◌, min, Bool, not, ◌&&◌, ◌||◌, nat_lt, ◌==◌, if◌then◌else◌, List, [], ◌∷◌, length, take, reverse, Option, Some, None, is_some, option_and_then}
 use Rattle.std.specs.List.{slice_split, list_all, find, filter_map, prefix_len, sum_by, take_while}
 use Rattle.std.specs.Char.{is_ascii_digit, is_ascii_alphabetic}
@@ -41,7 +41,8 @@ members_in (b ∷ line) = slice_split is_comma (b ∷ line)
 
 -- the limit that the last member with this letter sets
 abbrev pub limit_named : ℕ → List Member → Option ℕ
-limit_named letter members = option_and_then (λ m. m.limit) (find (λ m. m.letter == letter) (reverse members))
+limit_named letter members =
+    option_and_then (λ m. m.limit) (find (λ m. m.letter == letter) (reverse members))
 
 -- the limits that members set: S is byte 83 and C is byte 67
 abbrev pub limits_named : List Member → LimitNumbers
@@ -49,13 +50,15 @@ limits_named members = record { octets = limit_named 83 members; count = limit_n
 
 -- the limits that members' texts set, if each is right
 abbrev pub limits_in : List (List ℕ) → Option LimitNumbers
-limits_in texts = if list_all is_member texts then Some (limits_named (filter_map member_in texts)) else None
+limits_in texts =
+    if list_all is_member texts then Some (limits_named (filter_map member_in texts)) else None
 
 -- where the first wrong text begins, with a comma behind each text
 abbrev pub wrong_text_in : List (List ℕ) → Option ℕ
 wrong_text_in texts =
     let right = prefix_len is_member texts in
-    if nat_lt right (length texts) then Some (sum_by (λ text. length text + 1) (take right texts)) else None
+    if nat_lt right (length texts) then Some (sum_by (λ text. length text + 1) (take right texts))
+    else None
 
 -- the limits that a line defines
 abbrev pub definition_in : List ℕ → Option LimitNumbers

@@ -1,4 +1,5 @@
--- A list's longest front of elements that pass a test, which is `take_while` of std, and what stands behind it.
+-- A list's longest front of elements that pass a test, which is `take_while` of std, and what
+-- stands behind it.
 use Rattle.std.specs.Prelude.{ℕ, Bool, false, List, [], ◌∷◌, drop}
 use Rattle.std.specs.List.{prefix_len}
 

@@ -1,5 +1,6 @@
--- The sum lines of a ledger (Maildir++): spaces, an integer of octets, one space or more, an integer of messages, and
--- spaces. A space is byte 32. An integer is an optional minus, byte 45, and 1 to 18 digits.
+-- The sum lines of a ledger (Maildir++): spaces, an integer of octets, one space or more, an
+-- integer of messages, and spaces. A space is byte 32. An integer is an optional minus, byte 45,
+-- and 1 to 18 digits.
 use Rattle.std.specs.Prelude.{ℕ, ℤ, pos, neg_ℤ, Bool, not, ◌||◌, nat_lt, nat_le, ◌==◌, if◌then◌else◌, List, [], ◌∷◌, length, Option, None, is_some, option_map, option_and_then}
 use Rattle.std.specs.List.{slice_split, filter, filter_map, list_any, after_first}
 use Rattle.quota_units.specs.Digits.{number_of}
@@ -16,7 +17,8 @@ magnitude_in digits = if nat_le (length digits) 18 then number_of digits else No
 abbrev pub integer_in : List ℕ → Option ℤ
 integer_in [] = None
 integer_in (b ∷ text) =
-    if b == 45 then option_map (λ n. neg_ℤ (pos n)) (magnitude_in text) else option_map pos (magnitude_in (b ∷ text))
+    if b == 45 then option_map (λ n. neg_ℤ (pos n)) (magnitude_in text)
+    else option_map pos (magnitude_in (b ∷ text))
 
 -- what stands between the spaces of a line
 abbrev pub words_in : List ℕ → List (List ℕ)
@@ -24,7 +26,8 @@ words_in line = filter (λ word. nat_lt 0 (length word)) (slice_split is_space l
 
 -- two integers are a pair
 abbrev pub pair_of : Option ℤ → Option ℤ → Option Pair
-pair_of octets count = option_and_then (λ o. option_map (λ c. record { octets = o; count = c }) count) octets
+pair_of octets count =
+    option_and_then (λ o. option_map (λ c. record { octets = o; count = c }) count) octets
 
 abbrev pub pair_of_words : List (List ℕ) → Option Pair
 pair_of_words [] = None

@@ -11,4 +11,7 @@ total_of numbers = fold ◌+ℤ◌ (pos 0) numbers
 
 -- the sum of the octets, and the sum of the messages
 abbrev pub sum_of : List Pair → Pair
-sum_of pairs = record { octets = total_of (map (λ p. p.octets) pairs); count = total_of (map (λ p. p.count) pairs) }
+sum_of pairs = record {
+  octets = total_of (map (λ p. p.octets) pairs);
+  count = total_of (map (λ p. p.count) pairs);
+}

@@ -15,11 +15,12 @@ pub(crate) struct Member {
     limit: Option<u64>,
 }
 
-/// The limits that the first line of a ledger defines, whatever stands behind it; `None` where there are no bytes,
-/// and where that line is no definition.
+/// The limits that the first line of a ledger defines, whatever stands behind it; `None` where
+/// there are no bytes, and where that line is no definition.
 ///
-/// A definition is empty or has members with commas between them (Maildir++): one or more digits and a letter, `S`
-/// for octets and `C` for messages. A number above 9007199254740991 is cut at it, and 0 is no limit.
+/// A definition is empty or has members with commas between them (Maildir++): one or more digits
+/// and a letter, `S` for octets and `C` for messages. A number above 9007199254740991 is cut at it,
+/// and 0 is no limit.
 pub fn definition_of(bytes: &[u8]) -> Option<Limits>
     ensures { result ≡ definition_of bytes.now }
 {
@@ -32,8 +33,8 @@ pub fn definition_of(bytes: &[u8]) -> Option<Limits>
     }
 }
 
-/// The limits of octets and of messages that the first line of the bytes defines, and the bytes behind that line,
-/// which are none or begin with its line feed.
+/// The limits of octets and of messages that the first line of the bytes defines, and the bytes
+/// behind that line, which are none or begin with its line feed.
 ///
 /// # Errors
 ///
@@ -62,7 +63,8 @@ pub(crate) fn limits_from(octets: Option<u64>, count: Option<u64>) -> Limits
     Limits::new(octets, count).unwrap()
 }
 
-/// The limits of octets and of messages that the members of the first line set, and the bytes behind that line.
+/// The limits of octets and of messages that the members of the first line set, and the bytes
+/// behind that line.
 ///
 /// # Errors
 ///
@@ -91,8 +93,8 @@ fn leading_members(bytes: &[u8]) -> Result<(Option<u64>, Option<u64>, &[u8]), us
     }
 }
 
-/// The member that the bytes begin with, up to a comma or the line's end, and the bytes from there on; `None` where
-/// no member stands there.
+/// The member that the bytes begin with, up to a comma or the line's end, and the bytes from there
+/// on; `None` where no member stands there.
 fn leading_member(bytes: &[u8]) -> Option<(Member, &[u8])>
     ensures member { MatchOption result (member_in (take_while is_in_member bytes.now) ≡ None)
         (λ r. (member_in (take_while is_in_member bytes.now) ≡ Some r.0)

@@ -7,7 +7,8 @@ ghost use Rattle.maildirsize.specs.Fronts.{skip_while, begins_with};
 /// What the number of leading digits is cut at, above each limit and each integer of a ledger.
 pub(crate) const CUT: u64 = 1000000000000000000;
 
-/// The digits that the bytes begin with: the number that they write, cut at 10^18, and the bytes behind them.
+/// The digits that the bytes begin with: the number that they write, cut at 10^18, and the bytes
+/// behind them.
 #[tactic(auto, using(crate::proofs::DigitSteps::digit_step))]
 pub(crate) fn leading_digits(bytes: &[u8]) -> (u64, &[u8])
     ensures number { result.0 ≡ min (digits_value 10 (take_while is_ascii_digit bytes.now)) CUT }

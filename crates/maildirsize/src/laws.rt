@@ -5,8 +5,8 @@ pub fn one_reading()
     ensures { OneReading }
 {}
 
-/// A law: a written ledger that is shorter than 5120 bytes, and whose numbers are below 10^18 in magnitude, reads
-/// as the limits and pairs that were written, and as no others.
+/// A law: a written ledger that is shorter than 5120 bytes, and whose numbers are below 10^18 in
+/// magnitude, reads as the limits and pairs that were written, and as no others.
 pub fn written_reads_back()
     ensures { WrittenReadsBack }
 {}

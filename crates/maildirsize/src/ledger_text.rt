@@ -47,14 +47,15 @@ pub enum LedgerFault {
     Torn { at: usize },
 }
 
-/// Reads a ledger (Maildir++): a definition line and sum lines, each ended by a line feed. It takes no memory.
+/// Reads a ledger (Maildir++): a definition line and sum lines, each ended by a line feed. It takes
+/// no memory.
 ///
 /// A sum line has two integers of at most 18 digits, octets and messages, with spaces round them.
 ///
 /// # Errors
 ///
-/// The text's first fault, in the order of `LedgerFault`. A definition without a line feed is torn at 0, whatever
-/// it holds.
+/// The text's first fault, in the order of `LedgerFault`. A definition without a line feed is torn
+/// at 0, whatever it holds.
 pub fn read_ledger(bytes: &[u8]) -> Result<LedgerText, LedgerFault>
     // What is read is a ledger, and these are its limits, its number of sum lines and their sums.
     ensures readable { IfOk result (SumsUp bytes.now) }
@@ -78,7 +79,8 @@ pub fn read_ledger(bytes: &[u8]) -> Result<LedgerText, LedgerFault>
     }
 }
 
-/// The ledger of these limits and of the sum lines behind the definition of a text of so many bytes.
+/// The ledger of these limits and of the sum lines behind the definition of a text of so many
+/// bytes.
 ///
 /// # Errors
 ///
@@ -88,7 +90,8 @@ fn read_summed(limits: Limits, text_length: usize, bytes: &[u8]) -> Result<Ledge
     requires short { text_length < FULL }
     ensures fault { result_err result
         ≡ option_or (line_fault (lines_in bytes.now)) (rest_fault text_length (rest_in bytes.now)) }
-    ensures ledger { IfOk result (λ ledger. ledger ≡ summary limits (pairs_in (lines_in bytes.now))) }
+    ensures ledger { IfOk result
+        (λ ledger. ledger ≡ summary limits (pairs_in (lines_in bytes.now))) }
 {
     let mut lines = 0;
     let mut octets = 0;
@@ -113,8 +116,8 @@ fn read_summed(limits: Limits, text_length: usize, bytes: &[u8]) -> Result<Ledge
 
 /// The fault of a text whose definition has a wrong member at this offset.
 fn definition_fault(bytes: &[u8], at: usize) -> LedgerFault
-    ensures { result
-        ≡ (if list_any is_line_feed bytes.now then LedgerFault.BadDefinition at else LedgerFault.Torn 0) }
+    ensures { result ≡ (if list_any is_line_feed bytes.now then LedgerFault.BadDefinition at
+        else LedgerFault.Torn 0) }
 {
     if bytes.contains(&b'\n') {
         LedgerFault::BadDefinition { at }
@@ -123,10 +126,11 @@ fn definition_fault(bytes: &[u8], at: usize) -> LedgerFault
     }
 }
 
-/// The fault of a line that is no sum line with its line feed: its number, or the offset at which it begins.
+/// The fault of a line that is no sum line with its line feed: its number, or the offset at which
+/// it begins.
 fn sum_line_fault(bytes: &[u8], line: u32, at: usize) -> LedgerFault
-    ensures { result
-        ≡ (if list_any is_line_feed bytes.now then LedgerFault.BadLine line else LedgerFault.Torn at) }
+    ensures { result ≡ (if list_any is_line_feed bytes.now then LedgerFault.BadLine line
+        else LedgerFault.Torn at) }
 {
     if bytes.contains(&b'\n') {
         LedgerFault::BadLine { line }

@@ -1,6 +1,7 @@
 //! The ledger of a quota root: the text of the file `maildirsize`, read and written.
 //!
-//! A ledger is a definition line and any number of sum lines, each ended by a line feed (Maildir++).
+//! A ledger is a definition line and any number of sum lines, each ended by a line feed
+//! (Maildir++).
 #![tactic(auto)]
 
 mod definition;

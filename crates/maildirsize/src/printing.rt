@@ -5,7 +5,8 @@ use crate::text::Text;
 use itoa::Buffer;
 use quota_units::{Limits, Totals};
 
-/// Sets the text to the written definition of the limits, such as `10000000S,1000C`; `0S` where none is set.
+/// Sets the text to the written definition of the limits, such as `10000000S,1000C`; `0S` where
+/// none is set.
 ///
 /// It has no line feed (Maildir++).
 pub fn print_definition(limits: &Limits, out: &mut Text)
@@ -15,7 +16,8 @@ pub fn print_definition(limits: &Limits, out: &mut Text)
     push_definition(limits, out);
 }
 
-/// Sets the text to the written sum line of so many octets and messages, such as `-1234 -1`, with its line feed.
+/// Sets the text to the written sum line of so many octets and messages, such as `-1234 -1`, with
+/// its line feed.
 pub fn print_line(octets: i64, count: i64, out: &mut Text)
     requires { IsSmall (record { octets = octets; count = count }) }
     ensures { out.new ≡ written_line (record { octets = octets; count = count }) }
@@ -24,14 +26,15 @@ pub fn print_line(octets: i64, count: i64, out: &mut Text)
     push_line(octets, count, out);
 }
 
-/// Sets the text to a whole ledger: the written definition of the limits, and one sum line of the totals.
+/// Sets the text to a whole ledger: the written definition of the limits, and one sum line of the
+/// totals.
 ///
 /// Each of its two lines has a line feed.
 pub fn print_folded(limits: &Limits, totals: &Totals, out: &mut Text)
     requires octets { totals.now.octets < 2 ^ 63 }
     requires count { totals.now.count < 2 ^ 63 }
-    ensures { out.new
-        ≡ written_ledger limits.now (record { octets = pos totals.now.octets; count = pos totals.now.count } ∷ []) }
+    ensures { out.new ≡ written_ledger limits.now
+        (record { octets = pos totals.now.octets; count = pos totals.now.count } ∷ []) }
 {
     out.clear();
     push_definition(limits, out);

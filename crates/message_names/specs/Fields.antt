@@ -1,5 +1,5 @@
--- The fields of a unique part: what its commas part. A place that names a size is a field behind the base that states
--- one.
+-- The fields of a unique part: what its commas part. A place that names a size is a field behind
+-- the base that states one.
 use Rattle.std.specs.Prelude.{ℕ, ◌&&◌, ◌==◌, if◌then◌else◌, List, [], ◌∷◌, Option, None}
 use Rattle.message_names.specs.Sizes.{size_in_digits}
 

@@ -19,16 +19,24 @@ abbrev pub WrittenReadsBack : Type 0
 WrittenReadsBack =
     (base : List ℕ) (size : ℕ) (flags : Flags) (length : ℕ)
     → is_base base ≡ true → size < 2 ^ 64
-    → message_of (written_name base size flags) length ≡ record { base = base; octets = cut size; flags = flags }
+    → message_of (written_name base size flags) length ≡ record {
+      base = base;
+      octets = cut size;
+      flags = flags;
+    }
 
--- a name with new flags has the same unique part, these flags, and the other bytes behind them; so it tells the same
--- message but for its flags, whatever the file's length
+-- a name with new flags has the same unique part, these flags, and the other bytes behind them; so
+-- it tells the same message but for its flags, whatever the file's length
 pub record IsRenamed (before after : List ℕ) (given : Flags) : Type 0 where
   pub unique : unique_of after ≡ unique_of before
   pub flags : flags_of after ≡ given
   pub others : others_of after ≡ others_of before
   pub message : (length : ℕ)
-      → message_of after length ≡ record { base = base_of before; octets = octets_of before length; flags = given }
+      → message_of after length ≡ record {
+        base = base_of before;
+        octets = octets_of before length;
+        flags = given;
+      }
 
 abbrev pub RenamedReadsBack : Type 0
 RenamedReadsBack = (name : List ℕ) (flags : Flags) → IsRenamed name (renamed name flags) flags

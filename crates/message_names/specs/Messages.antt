@@ -15,4 +15,8 @@ abbrev pub octets_of : List ℕ → ℕ → ℕ
 octets_of name length = size_or (size_named (unique_of name)) length
 
 abbrev pub message_of : List ℕ → ℕ → FileMessage
-message_of name length = record { base = base_of name; octets = octets_of name length; flags = flags_of name }
+message_of name length = record {
+  base = base_of name;
+  octets = octets_of name length;
+  flags = flags_of name;
+}

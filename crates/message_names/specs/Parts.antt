@@ -1,5 +1,5 @@
--- The parts of a message file name (Maildir++), as of `1.host,S=1234:2,S`: the unique part `1.host,S=1234`, the base
--- `1.host`, and the info part `2,S`.
+-- The parts of a message file name (Maildir++), as of `1.host,S=1234:2,S`: the unique part
+-- `1.host,S=1234`, the base `1.host`, and the info part `2,S`.
 use Rattle.std.specs.Prelude.{ℕ, Bool, ◌==◌, List}
 use Rattle.std.specs.List.{before_first, after_first}
 

@@ -13,7 +13,8 @@ cut octets = min octets 1099511627775
 -- the size that one or more digits write
 abbrev pub size_in_digits : List ℕ → Option ℕ
 size_in_digits digits =
-    if nat_lt 0 (length digits) && list_all is_ascii_digit digits then Some (cut (digits_value 10 digits)) else None
+    if nat_lt 0 (length digits)
+    && list_all is_ascii_digit digits then Some (cut (digits_value 10 digits)) else None
 
 -- what follows `,S=`, where the bytes begin with it
 abbrev pub behind_mark : List ℕ → Option (List ℕ)
@@ -22,9 +23,11 @@ behind_mark (a ∷ []) = None
 behind_mark (a ∷ b ∷ []) = None
 behind_mark (a ∷ b ∷ c ∷ rest) = if is_comma a && (b == 83 && c == 61) then Some rest else None
 
--- the size that a place names, by the bytes from there on: `,S=`, and then digits up to a comma or to the end
+-- the size that a place names, by the bytes from there on: `,S=`, and then digits up to a comma or
+-- to the end
 abbrev pub size_at : List ℕ → Option ℕ
-size_at bytes = option_and_then (λ rest. size_in_digits (before_first is_comma rest)) (behind_mark bytes)
+size_at bytes =
+    option_and_then (λ rest. size_in_digits (before_first is_comma rest)) (behind_mark bytes)
 
 -- the size that the first of all places names
 abbrev pub size_named : List ℕ → Option ℕ
@@ -36,8 +39,8 @@ abbrev pub ends_digits : List ℕ → Bool
 ends_digits [] = true
 ends_digits (b ∷ bytes) = is_comma b
 
--- The unique part has a place that names a size: these bytes before it, `,S=`, one or more digits, and behind them
--- nothing or a comma and more.
+-- The unique part has a place that names a size: these bytes before it, `,S=`, one or more digits,
+-- and behind them nothing or a comma and more.
 pub record SizePlace (unique before digits behind : List ℕ) : Type 0 where
   pub whole : unique ≡ before ++ (codes ",S=" ++ (digits ++ behind))
   pub some : 0 < length digits

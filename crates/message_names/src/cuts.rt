@@ -4,7 +4,8 @@ ghost use Rattle.message_names.specs.FlagLetters.{behind_two};
 
 use memchr::memchr;
 
-/// The bytes before the first separator and those behind it; all and none where there is no separator.
+/// The bytes before the first separator and those behind it; all and none where there is no
+/// separator.
 pub(crate) fn around_first(separator: u8, bytes: &[u8]) -> (&[u8], &[u8])
     ensures before { result.0.now ≡ before_first (λ b. b == separator) bytes.now }
     ensures after { result.1.now ≡ after_first (λ b. b == separator) bytes.now }

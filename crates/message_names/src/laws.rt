@@ -10,7 +10,8 @@ pub fn written_reads_back()
     ensures { WrittenReadsBack }
 {}
 
-/// A law: a name with new flags has the unique part of the old name, these flags, and its other bytes.
+/// A law: a name with new flags has the unique part of the old name, these flags, and its other
+/// bytes.
 pub fn renamed_reads_back()
     ensures { RenamedReadsBack }
 {}

@@ -1,6 +1,7 @@
 //! The file names of messages, read and written: `base,S=size:2,flags`.
 //!
-//! A name states the message's size in octets and its flags, so that neither has to be looked up in the file (Maildir++).
+//! A name states the message's size in octets and its flags, so that neither has to be looked up in
+//! the file (Maildir++).
 #![tactic(auto)]
 
 mod cuts;

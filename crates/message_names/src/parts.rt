@@ -22,17 +22,19 @@ pub struct NameParts<'a> {
     pub flags: Flags,
 }
 
-/// The parts of a message file name (Maildir++). Every list of bytes is a name, and it takes no memory.
+/// The parts of a message file name (Maildir++). Every list of bytes is a name, and it takes no
+/// memory.
 ///
-/// The size is stated at the first place of the unique part where `,S=` is followed by one or more digits, and these
-/// by a comma or by the end.
+/// The size is stated at the first place of the unique part where `,S=` is followed by one or more
+/// digits, and these by a comma or by the end.
 pub fn parse_name(name: &[u8]) -> NameParts<'_>
     ensures unique { result.unique.now ≡ unique_of name.now }
     ensures base { result.base.now ≡ base_of name.now }
     ensures info { result.info.now ≡ info_of name.now }
     ensures flags { result.flags ≡ flags_of name.now }
     ensures size { result.size ≡ size_named (unique_of name.now) }
-    // The size is that of the first place which qualifies, and there is none exactly where no place does.
+    // The size is that of the first place which qualifies, and there is none exactly where no place
+    // does.
     ensures first_place { IsSizeNamed (unique_of name.now) result.size }
 {
     let (unique, info) = around_first(b':', name);
@@ -46,8 +48,8 @@ pub fn parse_name(name: &[u8]) -> NameParts<'_>
     }
 }
 
-/// The base of a message file name: what stands before the first `,` of its unique part, or all of that part. Size and
-/// flags are not read. It takes no memory.
+/// The base of a message file name: what stands before the first `,` of its unique part, or all of
+/// that part. Size and flags are not read. It takes no memory.
 pub fn base_of(name: &[u8]) -> &[u8]
     ensures { result.now ≡ base_of name.now }
 {

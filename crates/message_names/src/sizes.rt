@@ -8,15 +8,16 @@ use crate::parts::NameParts;
 /// What a size is cut at: 2^40 - 1 octets.
 const LARGEST_SIZE: u64 = 1099511627775;
 
-/// The octets of a message whose file has this name and so many bytes: the size that the name states, or else the
-/// length, each cut at 1099511627775.
+/// The octets of a message whose file has this name and so many bytes: the size that the name
+/// states, or else the length, each cut at 1099511627775.
 pub fn size_of(parts: &NameParts<'_>, length: u64) -> u64
     ensures { result ≡ size_or parts.now.size length }
 {
     parts.size.unwrap_or(length).min(LARGEST_SIZE)
 }
 
-/// The size that the first field `S=` with digits alone states, among fields with commas between them.
+/// The size that the first field `S=` with digits alone states, among fields with commas between
+/// them.
 pub(crate) fn size_in_fields(fields: &[u8]) -> Option<u64>
     ensures { result ≡ size_named (44 ∷ fields.now) }
 {

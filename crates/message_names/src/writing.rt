@@ -34,9 +34,11 @@ impl From<AllocError> for NameFault {
 /// The letters that name flags, in alphabetical order.
 const LETTERS: [u8; 6] = *b"DFPRST";
 
-/// The file name of a message: `base,S=size`, and where flags are set `:2,` and their letters in alphabetical order.
+/// The file name of a message: `base,S=size`, and where flags are set `:2,` and their letters in
+/// alphabetical order.
 ///
-/// `size` is a number of octets. It is written uncut, and cut at 1099511627775 where it is read (Maildir++).
+/// `size` is a number of octets. It is written uncut, and cut at 1099511627775 where it is read
+/// (Maildir++).
 ///
 /// # Errors
 ///
@@ -45,8 +47,8 @@ pub fn print_name(alloc: Global, base: &[u8], size: u64, flags: Flags) -> Result
     ensures bad_base { (result ≡ Err NameFault.BadBase) ↔ (is_base base.now ≡ false) }
     ensures written { IfOk result (λ name. name.items ≡ written_name base.now size flags) }
     // Whatever the file's length, the name tells this base, this size, cut, and these flags.
-    ensures reads_back { IfOk result (λ name. (length : ℕ)
-        → message_of name.items length ≡ record { base = base.now; octets = cut size; flags = flags }) }
+    ensures reads_back { IfOk result (λ name. (length : ℕ) → message_of name.items length
+        ≡ record { base = base.now; octets = cut size; flags = flags }) }
 {
     if !is_base(base) {
         return Err(NameFault::BadBase);
@@ -59,8 +61,9 @@ pub fn print_name(alloc: Global, base: &[u8], size: u64, flags: Flags) -> Result
     Ok(name)
 }
 
-/// The file name with these flags in place of its own: the unique part, `:2,`, the letters in alphabetical order, and
-/// then the other bytes that stood behind `2,`, in their order. No other bytes of the info part are kept.
+/// The file name with these flags in place of its own: the unique part, `:2,`, the letters in
+/// alphabetical order, and then the other bytes that stood behind `2,`, in their order. No other
+/// bytes of the info part are kept.
 pub fn with_flags(alloc: Global, name: &[u8], flags: Flags) -> Result<Vec<u8>, NoMemory>
     ensures renamed { IfOk result (λ after. after.items ≡ renamed name.now flags) }
     // The new name has the same unique part, these flags, and the other bytes.
@@ -128,7 +131,8 @@ fn push_letters(name: &mut Vec<u8>, flags: Flags) -> Result<(), AllocError>
 
 /// Adds the bytes that name no flag, in their order.
 fn push_others(name: &mut Vec<u8>, bytes: &[u8]) -> Result<(), AllocError>
-    ensures { OnOk result (name.new.items ≡ name.old.items ++ filter (λ b. not (is_flag_letter b)) bytes.now) }
+    ensures { OnOk result
+        (name.new.items ≡ name.old.items ++ filter (λ b. not (is_flag_letter b)) bytes.now) }
 {
     for byte in bytes {
         if !is_flag_letter(*byte) {

@@ -1,4 +1,5 @@
--- Which roots govern which mailbox. Maildir++ counts every folder but Trash; the roots with a prefix are this project's own.
+-- Which roots govern which mailbox. Maildir++ counts every folder but Trash; the roots with a
+-- prefix are this project's own.
 use Rattle.std.specs.Prelude.{ℕ, Bool, false, not, ◌&&◌, ◌||◌, List, ◌++◌, length, filter, slice_get, codes, bytes_eq, nat_eq, Option, None, Some}
 use Rattle.std.specs.List.{starts_with, range_with_len}
 use Rattle.std.specs.Option.{option_map_or}
@@ -6,7 +7,8 @@ use Rattle.quota_roots.specs.declared.root.RootSpec.{RootSpec}
 
 -- the mailbox of the prefix's name, and those below it
 abbrev pub is_under : List ℕ → List ℕ → Bool
-is_under prefix mailbox = bytes_eq mailbox prefix || starts_with nat_eq mailbox (prefix ++ codes ".")
+is_under prefix mailbox =
+    bytes_eq mailbox prefix || starts_with nat_eq mailbox (prefix ++ codes ".")
 
 abbrev pub governs_by : Option (List ℕ) → List ℕ → Bool
 governs_by None mailbox = not (bytes_eq mailbox (codes "Trash"))
@@ -18,11 +20,13 @@ governs root mailbox = governs_by root.prefix mailbox
 
 -- the root of this number governs the mailbox; the number of no root governs none
 abbrev pub governs_at : List RootSpec → ℕ → List ℕ → Bool
-governs_at roots root mailbox = option_map_or (λ spec. governs spec mailbox) (slice_get roots root) false
+governs_at roots root mailbox =
+    option_map_or (λ spec. governs spec mailbox) (slice_get roots root) false
 
 -- the numbers of the roots that govern the mailbox, in order
 abbrev pub governing : List RootSpec → List ℕ → List ℕ
-governing roots mailbox = filter (λ root. governs_at roots root mailbox) (range_with_len 0 (length roots))
+governing roots mailbox =
+    filter (λ root. governs_at roots root mailbox) (range_with_len 0 (length roots))
 
 -- the root governs the target of a move and not its source
 abbrev pub gains : RootSpec → List ℕ → List ℕ → Bool
@@ -33,9 +37,11 @@ gains_at roots root from to = governs_at roots root to && not (governs_at roots 
 
 -- the numbers of those roots, in order
 abbrev pub gaining : List RootSpec → List ℕ → List ℕ → List ℕ
-gaining roots from to = filter (λ root. gains_at roots root from to) (range_with_len 0 (length roots))
+gaining roots from to =
+    filter (λ root. gains_at roots root from to) (range_with_len 0 (length roots))
 
--- the root governs the mailbox that a message comes to, and not the one that it comes from, if there is one
+-- the root governs the mailbox that a message comes to, and not the one that it comes from, if
+-- there is one
 abbrev pub gains_by : List RootSpec → Option (List ℕ) → List ℕ → ℕ → Bool
 gains_by roots None to root = governs_at roots root to
 gains_by roots (Some from) to root = gains_at roots root from to

@@ -1,4 +1,5 @@
--- Mailbox names. INBOX is one name in any ASCII case (RFC 9051, section 5.1); which other bytes make a name is this project's own.
+-- Mailbox names. INBOX is one name in any ASCII case (RFC 9051, section 5.1); which other bytes
+-- make a name is this project's own.
 use Rattle.std.specs.Prelude.{ℕ, Bool, false, not, ◌&&◌, ◌||◌, List, [], ◌∷◌, length, codes, nat_eq, nat_le, if◌then◌else◌}
 use Rattle.std.specs.List.{list_all, list_any, starts_with, ends_with}
 use Rattle.std.specs.Str.{str_eq_ignore_ascii_case}
@@ -20,4 +21,5 @@ has_double_dot (byte ∷ rest) = starts_with nat_eq (byte ∷ rest) (codes "..")
 abbrev pub is_mailbox_name : List ℕ → Bool
 is_mailbox_name name =
     (nat_le 1 (length name) && nat_le (length name) 200) && (list_all is_mailbox_byte name
-    && (not (starts_with nat_eq name (codes ".")) && (not (ends_with nat_eq name (codes ".")) && not (has_double_dot name))))
+    && (not (starts_with nat_eq name (codes "."))
+    && (not (ends_with nat_eq name (codes ".")) && not (has_double_dot name))))

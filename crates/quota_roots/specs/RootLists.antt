@@ -1,4 +1,5 @@
--- Lists of quota roots: what they may be called, which mailboxes they may have, and where each stands. A root's number is its place.
+-- Lists of quota roots: what they may be called, which mailboxes they may have, and where each
+-- stands. A root's number is its place.
 use Rattle.std.specs.Prelude.{◌≡◌, ◌<◌, ◌≤◌, ℕ, Bool, not, ◌&&◌, List, [], length, take, position, slice_get, codes, bytes_eq, nat_eq, nat_le, Option, None, Some}
 use Rattle.std.specs.List.{list_all, list_any, enumerate_from}
 use Rattle.std.specs.Option.{option_map_or}
@@ -12,7 +13,8 @@ is_root_name name = nat_le (length name) 64 && list_all is_printable name
 -- root 0 has no prefix, and each other root has a mailbox name other than Trash
 abbrev pub is_prefix_at : ℕ → Option (List ℕ) → Bool
 is_prefix_at root None = nat_eq root 0
-is_prefix_at root (Some prefix) = not (nat_eq root 0) && (is_mailbox_name prefix && not (bytes_eq prefix (codes "Trash")))
+is_prefix_at root (Some prefix) =
+    not (nat_eq root 0) && (is_mailbox_name prefix && not (bytes_eq prefix (codes "Trash")))
 
 -- the root may stand at this place
 abbrev pub is_root_at : ℕ → RootSpec → Bool
@@ -45,7 +47,8 @@ root_named roots name = position (λ spec. bytes_eq spec.name name) roots
 abbrev pub name_at : List RootSpec → ℕ → List ℕ
 name_at roots root = option_map_or (λ spec. spec.name) (slice_get roots root) []
 
--- the refusals of a list, each behind those above it: by the number of roots, by the root at a place, and by its name
+-- the refusals of a list, each behind those above it: by the number of roots, by the root at a
+-- place, and by its name
 abbrev pub IsTooMany : List RootSpec → ℕ → Type 0
 IsTooMany roots count = (4 < length roots) × (count ≡ length roots)
 
@@ -53,4 +56,5 @@ abbrev pub IsBadName : List RootSpec → ℕ → Type 0
 IsBadName roots at = (length roots ≤ 4) × (first_bad_name roots ≡ Some at)
 
 abbrev pub IsDouble : List RootSpec → ℕ → Type 0
-IsDouble roots at = (length roots ≤ 4) × (first_bad_name roots ≡ None) × (first_double roots ≡ Some at)
+IsDouble roots at = (length roots ≤ 4) × (first_bad_name roots ≡ None)
+    × (first_double roots ≡ Some at)

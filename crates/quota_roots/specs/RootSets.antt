@@ -19,4 +19,5 @@ bits_of roots = sum_by (λ root. 2 ^ root) roots
 -- a set of four roots at most has one number
 pub bits_of_members : (bits : ℕ) → bits < 16 → bits_of (members bits) ≡ bits
 unfolding members
-bits_of_members bits small = eqb-true _ _ (agree_below_at (λ n. nat_eq (bits_of (members n)) n) (λ _. true) 16 bits refl small)
+bits_of_members bits small = eqb-true _ _
+    (agree_below_at (λ n. nat_eq (bits_of (members n)) n) (λ _. true) 16 bits refl small)

@@ -11,7 +11,8 @@ is_mailbox name = is_mailbox_name name && bytes_eq (canonical name) name
 -- no name stands twice
 abbrev pub are_different : List (List ℕ) → Bool
 are_different [] = true
-are_different (name ∷ names) = not (list_any (λ other. bytes_eq other name) names) && are_different names
+are_different (name ∷ names) =
+    not (list_any (λ other. bytes_eq other name) names) && are_different names
 
 -- 1 to 256 different mailboxes in their one spelling, of which INBOX is the first
 pub record AreMailboxes (mailboxes : List (List ℕ)) : Type 0 where

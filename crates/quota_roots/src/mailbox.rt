@@ -4,16 +4,18 @@ ghost use Rattle.quota_roots.specs.MailboxNames.{canonical, is_mailbox_byte, is_
 use quota_units::{Name, NameError, is_printable};
 use std::alloc::Global;
 
-/// The one spelling of a mailbox name: `INBOX` for `INBOX` in any ASCII case (RFC 9051, section 5.1), and else
-/// the bytes as they are.
+/// The one spelling of a mailbox name: `INBOX` for `INBOX` in any ASCII case (RFC 9051, section
+/// 5.1), and else the bytes as they are.
 ///
 /// # Errors
 ///
 /// `TooLong` where there are more than 255 bytes.
 pub fn canonical_name(alloc: Global, bytes: &[u8]) -> Result<Name, NameError>
     ensures ok { IfOk result (λ name. name ≡ canonical bytes.now) }
-    ensures too_long { (result ≡ Err (NameError.TooLong (length bytes.now))) ↔ (255 < length bytes.now) }
-    ensures only { IfErr result (λ e. (e ≡ NameError.TooLong (length bytes.now)) ⊎ (e ≡ NameError.NoMemory)) }
+    ensures too_long { (result ≡ Err (NameError.TooLong (length bytes.now)))
+        ↔ (255 < length bytes.now) }
+    ensures only { IfErr result (λ e. (e ≡ NameError.TooLong (length bytes.now))
+        ⊎ (e ≡ NameError.NoMemory)) }
 {
     Name::of(alloc, canonical_spelling(bytes))
 }
@@ -30,8 +32,8 @@ pub fn canonical_spelling(bytes: &[u8]) -> &[u8]
     }
 }
 
-/// Whether the bytes may name a mailbox: 1 to 200 bytes from 0x20 to 0x7E without `/`, `*`, `%`, `"` and `\`,
-/// with `.` neither first nor last nor beside another.
+/// Whether the bytes may name a mailbox: 1 to 200 bytes from 0x20 to 0x7E without `/`, `*`, `%`,
+/// `"` and `\`, with `.` neither first nor last nor beside another.
 #[tactic(auto, using(crate::proofs::MailboxLemmas::reads_all, crate::proofs::MailboxLemmas::reads_more, crate::proofs::MailboxLemmas::reads_end))]
 pub fn is_mailbox_name(bytes: &[u8]) -> bool
     ensures { result ≡ is_mailbox_name bytes.now }

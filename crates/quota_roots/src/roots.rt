@@ -23,7 +23,8 @@ pub enum RootsError {
     /// There are more than 4 roots.
     #[error("there are at most 4 quota roots, and not {count}")]
     TooMany { count: usize },
-    /// The root at this place has a name or a prefix that it may not have, or has no prefix where it needs one.
+    /// The root at this place has a name or a prefix that it may not have, or has no prefix where
+    /// it needs one.
     #[error("quota root {at} has a wrong name or prefix")]
     BadName { at: u32 },
     /// The root at this place has the name of one before it.
@@ -116,7 +117,8 @@ fn roots_of(specs: &[RootSpec], mailbox: &[u8]) -> RootSet
 fn gained(specs: &[RootSpec], from: &[u8], to: &[u8]) -> RootSet
     requires { length specs.now ≤ 4 }
     ensures value { result ≡ gaining specs.now from.now to.now }
-    ensures members { (root : ℕ) → Contains result root ↔ (IsTrue (governs_at specs.now root to.now) × IsFalse (governs_at specs.now root from.now)) }
+    ensures members { (root : ℕ) → Contains result root ↔ (IsTrue (governs_at specs.now root to.now)
+        × IsFalse (governs_at specs.now root from.now)) }
 {
     let mut roots = RootSet::none();
     for (root, spec) in specs.iter().enumerate() {
@@ -137,7 +139,8 @@ fn copy_specs(alloc: Global, specs: &[RootSpec]) -> Result<Vec<RootSpec>, NoMemo
     Ok(copy)
 }
 
-/// The quota roots of an account: 1 to 4, each with a name of its own. Their numbers are their places, from 0 on.
+/// The quota roots of an account: 1 to 4, each with a name of its own. Their numbers are their
+/// places, from 0 on.
 #[derive(Debug, Drop)]
 pub struct Roots {
     specs: Vec<RootSpec>,
@@ -158,19 +161,22 @@ impl Model for Roots {
 impl Roots {
     /// The roots of this list.
     ///
-    /// Root 0 has no prefix, and each other root has a mailbox name other than `Trash`. A name is at most 64 bytes
-    /// from 0x20 to 0x7E.
+    /// Root 0 has no prefix, and each other root has a mailbox name other than `Trash`. A name is
+    /// at most 64 bytes from 0x20 to 0x7E.
     ///
     /// # Errors
     ///
-    /// `TooMany` above 4 roots; else `BadName` at the first root whose name or prefix is not so; else `Double` at the
-    /// first root with the name of one before it.
+    /// `TooMany` above 4 roots; else `BadName` at the first root whose name or prefix is not so;
+    /// else `Double` at the first root with the name of one before it.
     pub fn new(specs: Vec<RootSpec>) -> Result<Roots, RootsError>
         requires { 0 < vec_len specs }
         ensures ok { IfOk result (λ roots. roots ≡ specs.items) }
-        ensures too_many { (count : ℕ) → IsErrOf result (RootsError.TooMany count) ↔ IsTooMany specs.items count }
-        ensures bad_name { (at : ℕ) → IsErrOf result (RootsError.BadName at) ↔ IsBadName specs.items at }
-        ensures double { (at : ℕ) → IsErrOf result (RootsError.Double at) ↔ IsDouble specs.items at }
+        ensures too_many { (count : ℕ) → IsErrOf result (RootsError.TooMany count)
+            ↔ IsTooMany specs.items count }
+        ensures bad_name { (at : ℕ) → IsErrOf result (RootsError.BadName at)
+            ↔ IsBadName specs.items at }
+        ensures double { (at : ℕ) → IsErrOf result (RootsError.Double at)
+            ↔ IsDouble specs.items at }
     {
         if specs.len() > MAX_ROOTS as usize {
             return Err(RootsError::TooMany { count: specs.len() });
@@ -232,26 +238,31 @@ impl Roots {
     #[tactic(auto, using(crate::proofs::GoverningLemmas::governing_members, crate::proofs::GoverningLemmas::all_below))]
     pub fn roots_of(&self, mailbox: &[u8]) -> RootSet
         ensures value { result ≡ governing self.now mailbox.now }
-        ensures members { (root : ℕ) → Contains result root ↔ IsTrue (governs_at self.now root mailbox.now) }
+        ensures members { (root : ℕ) → Contains result root
+            ↔ IsTrue (governs_at self.now root mailbox.now) }
         ensures below { All (λ root. root < length self.now) result }
     {
         roots_of(&self.specs, mailbox)
     }
 
-    /// The roots that govern the mailbox `to` and not the mailbox `from`: those that a message comes under when it is moved.
+    /// The roots that govern the mailbox `to` and not the mailbox `from`: those that a message
+    /// comes under when it is moved.
     #[tactic(auto, using(crate::proofs::GoverningLemmas::gaining_all_below))]
     pub fn gained(&self, from: &[u8], to: &[u8]) -> RootSet
         ensures value { result ≡ gaining self.now from.now to.now }
-        ensures members { (root : ℕ) → Contains result root ↔ (IsTrue (governs_at self.now root to.now) × IsFalse (governs_at self.now root from.now)) }
+        ensures members { (root : ℕ) → Contains result root ↔ (IsTrue
+            (governs_at self.now root to.now) × IsFalse (governs_at self.now root from.now)) }
         ensures below { All (λ root. root < length self.now) result }
     {
         gained(&self.specs, from, to)
     }
 
-    /// The roots that a message comes under which goes from one mailbox to another; one that is delivered comes from none.
+    /// The roots that a message comes under which goes from one mailbox to another; one that is
+    /// delivered comes from none.
     pub fn gainers(&self, from: Option<&[u8]>, to: &[u8]) -> RootSet
         ensures value { result ≡ gainers self.now (option_map (λ m. m.now) from.entry) to.now }
-        ensures members { (root : ℕ) → has_root result root ≡ gains_by self.now (option_map (λ m. m.now) from.entry) to.now root }
+        ensures members { (root : ℕ) → has_root result root
+            ≡ gains_by self.now (option_map (λ m. m.now) from.entry) to.now root }
         ensures below { All (λ root. root < length self.now) result }
     {
         match from {

@@ -44,8 +44,8 @@ impl Setup {
         })
     }
 
-    /// Whether the setup has limits for each root, 1 to 256 different mailboxes in their one spelling, of which INBOX is the
-    /// first, and a history of 1 to 524288 entries.
+    /// Whether the setup has limits for each root, 1 to 256 different mailboxes in their one
+    /// spelling, of which INBOX is the first, and a history of 1 to 524288 entries.
     pub fn is_sound(&self) -> bool
         ensures { IsTrue result ↔ IsSound self.now }
     {
@@ -55,7 +55,8 @@ impl Setup {
     }
 }
 
-/// Whether these are 1 to 256 different mailboxes in their one spelling, of which INBOX is the first.
+/// Whether these are 1 to 256 different mailboxes in their one spelling, of which INBOX is the
+/// first.
 fn are_mailboxes(mailboxes: &[Name]) -> bool
     ensures { IsTrue result ↔ AreMailboxes mailboxes.now }
 {

@@ -6,4 +6,5 @@ use Rattle.std.specs.Str.Parse.{digits_value}
 
 -- the number that 1 to 19 digits write
 abbrev pub number_of : List ℕ → Option ℕ
-number_of bytes = if nat_lt 0 (length bytes) && (nat_le (length bytes) 19 && list_all is_ascii_digit bytes) then Some (digits_value 10 bytes) else None
+number_of bytes = if nat_lt 0 (length bytes) && (nat_le (length bytes) 19
+    && list_all is_ascii_digit bytes) then Some (digits_value 10 bytes) else None

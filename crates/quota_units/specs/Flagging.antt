@@ -1,4 +1,5 @@
--- The flags of a message, by the letters of Maildir file names: D (byte 68), F (70), P (80), R (82), S (83), T (84).
+-- The flags of a message, by the letters of Maildir file names: D (byte 68), F (70), P (80), R
+-- (82), S (83), T (84).
 use Rattle.std.specs.Prelude.{ℕ, Bool, false, ◌==◌, if◌then◌else◌, List, codes}
 use Rattle.std.specs.List.{filter, list_any}
 use Rattle.quota_units.specs.declared.flags.Flags.{Flags}
@@ -26,7 +27,14 @@ has_flag flags letter =
 -- the flags whose letters stand among bytes
 abbrev pub flags_among : List ℕ → Flags
 flags_among bytes =
-    record { draft = is_among bytes 68; flagged = is_among bytes 70; passed = is_among bytes 80; replied = is_among bytes 82; seen = is_among bytes 83; trashed = is_among bytes 84 }
+    record {
+      draft = is_among bytes 68;
+      flagged = is_among bytes 70;
+      passed = is_among bytes 80;
+      replied = is_among bytes 82;
+      seen = is_among bytes 83;
+      trashed = is_among bytes 84;
+    }
 
 -- the letters of the flags that are set, in alphabetical order
 abbrev pub letters_of : Flags → List ℕ

@@ -20,7 +20,8 @@ pub fn number_in(bytes: &[u8]) -> Option<u64>
     Some(value)
 }
 
-/// The number whose one decimal spelling these bytes are: no sign, no leading zero, at most 19 digits; `None` for other bytes.
+/// The number whose one decimal spelling these bytes are: no sign, no leading zero, at most 19
+/// digits; `None` for other bytes.
 #[tactic(auto, using(crate::proofs::DigitLemmas::numeral_is, crate::proofs::DigitLemmas::numeral_read))]
 pub fn numeral_in(bytes: &[u8]) -> Option<u64>
     ensures some { IfSome result (λ n. bytes.now ≡ decimal n) }

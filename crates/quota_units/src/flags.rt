@@ -20,12 +20,14 @@ pub struct Flags {
 }
 
 impl Flags {
-    /// The flags of these letters, in any order and any number of times; `None` where another byte stands among them.
+    /// The flags of these letters, in any order and any number of times; `None` where another byte
+    /// stands among them.
     pub fn of_letters(letters: &[u8]) -> Option<Flags>
         ensures some { IsSome result ↔ IsTrue (list_all is_flag_letter letters.now) }
         ensures value { IfSome result (λ flags. flags ≡ flags_among letters.now) }
         // The flag of each letter is set exactly where that letter stands there.
-        ensures exact { IfSome result (λ flags. (letter : ℕ) → has_flag flags letter ≡ is_among letters.now letter) }
+        ensures exact { IfSome result (λ flags. (letter : ℕ)
+            → has_flag flags letter ≡ is_among letters.now letter) }
     {
         if are_flag_letters(letters) {
             Some(Flags::among(letters))

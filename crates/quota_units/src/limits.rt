@@ -7,7 +7,8 @@ use thiserror::Error;
 /// The most storage units or messages that a limit can be set to.
 pub const MAX_LIMIT: u64 = 8796093022207;
 
-/// The most octets or messages that a limit has: 2^53 - 1, the largest whole number of JMAP (RFC 8620, section 1.3).
+/// The most octets or messages that a limit has: 2^53 - 1, the largest whole number of JMAP (RFC
+/// 8620, section 1.3).
 pub const LARGEST_LIMIT: u64 = 9007199254740991;
 
 /// Why a number can't be set as a limit.
@@ -21,7 +22,8 @@ pub enum LimitError {
     TooLarge(u64),
 }
 
-/// The limits of a quota root: octets and messages, each from 1 to 9007199254740991 where it is set.
+/// The limits of a quota root: octets and messages, each from 1 to 9007199254740991 where it is
+/// set.
 #[derive(Clone, Copy, Debug, PartialEq, Eq)]
 pub struct Limits {
     octets: Option<u64>,
@@ -44,7 +46,8 @@ impl Limits {
     /// Limits of so many octets and so many messages; `None` where a set number is out of range.
     pub fn new(octets: Option<u64>, count: Option<u64>) -> Option<Limits>
         ensures some { IsSome result ↔ AreLimits (record { octets = octets; count = count }) }
-        ensures value { IfSome result (λ limits. limits ≡ record { octets = octets; count = count }) }
+        ensures value { IfSome result
+            (λ limits. limits ≡ record { octets = octets; count = count }) }
     {
         if in_range(octets) && in_range(count) {
             Some(Limits { octets, count })

@@ -47,8 +47,10 @@ impl Name {
     /// `TooLong` where there are more than 255 bytes.
     pub fn of(alloc: Global, bytes: &[u8]) -> Result<Name, NameError>
         ensures ok { IfOk result (λ name. name ≡ bytes.now) }
-        ensures too_long { (result ≡ Err (NameError.TooLong (length bytes.now))) ↔ (255 < length bytes.now) }
-        ensures only { IfErr result (λ e. (e ≡ NameError.TooLong (length bytes.now)) ⊎ (e ≡ NameError.NoMemory)) }
+        ensures too_long { (result ≡ Err (NameError.TooLong (length bytes.now)))
+            ↔ (255 < length bytes.now) }
+        ensures only { IfErr result (λ e. (e ≡ NameError.TooLong (length bytes.now))
+            ⊎ (e ≡ NameError.NoMemory)) }
     {
         if bytes.len() > 255 {
             return Err(NameError::TooLong {
@@ -67,7 +69,8 @@ impl Name {
     /// `TooLong` where there are more than 255 bytes, and no other.
     pub fn from_vec(bytes: Vec<u8>) -> Result<Name, NameError>
         ensures ok { IfOk result (λ name. name ≡ bytes.items) }
-        ensures too_long { (result ≡ Err (NameError.TooLong (vec_len bytes))) ↔ (255 < vec_len bytes) }
+        ensures too_long { (result ≡ Err (NameError.TooLong (vec_len bytes)))
+            ↔ (255 < vec_len bytes) }
         ensures only { IfErr result (λ e. e ≡ NameError.TooLong (vec_len bytes)) }
     {
         let length = bytes.len();

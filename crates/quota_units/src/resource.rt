@@ -10,7 +10,8 @@ pub enum Resource {
     Message,
 }
 
-/// The resource of this name: `STORAGE` or `MESSAGE`, in any ASCII case; `None` for every other name.
+/// The resource of this name: `STORAGE` or `MESSAGE`, in any ASCII case; `None` for every other
+/// name.
 pub fn resource_named(name: &[u8]) -> Option<Resource>
     ensures { result ≡ resource_of name.now }
 {

@@ -1,4 +1,5 @@
--- The limits that SETQUOTA asks for, or why they are refused. The order of the refusals is this project's own.
+-- The limits that SETQUOTA asks for, or why they are refused. The order of the refusals is this
+-- project's own.
 use Rattle.std.specs.Prelude.{ℕ, ◌*◌, Bool, true, false, ◌&&◌, ◌||◌, nat_lt, nat_le, if◌then◌else◌, List, length, filter, find, Option, Some, None, Result, Ok, Err, codes}
 use Rattle.std.specs.List.{list_any}
 use Rattle.std.specs.Option.{is_none, option_map}
@@ -35,7 +36,8 @@ can_be_set (Some n) = nat_le 1 n && nat_le n 8796093022207
 
 abbrev pub limits_set : Option ℕ → Option ℕ → Result LimitNumbers Refusal
 limits_set units messages =
-    if can_be_set units && can_be_set messages then Ok (record { octets = option_map (λ n. 1024 * n) units; count = messages }) else Err Unsupported
+    if can_be_set units && can_be_set messages then Ok
+    (record { octets = option_map (λ n. 1024 * n) units; count = messages }) else Err Unsupported
 
 -- one is asked for no resource of this service
 abbrev pub has_unknown : List AskedLimit → Bool

@@ -18,11 +18,13 @@ abbrev pub said : List ℕ → List ℕ → List ℕ
 said words value = words ++ (value ++ codes "\n")
 
 abbrev pub sums_text : (octets count : ℤ) → List ℕ
-sums_text octets count = said (codes "octets ") (signed_decimal octets) ++ said (codes "messages ") (signed_decimal count)
+sums_text octets count = said (codes "octets ") (signed_decimal octets)
+    ++ said (codes "messages ") (signed_decimal count)
 
 abbrev pub values_text : LedgerText → List ℕ
 values_text ledger =
-    said (codes "definition ") (written_definition ledger.limits) ++ (said (codes "lines ") (decimal ledger.lines) ++ sums_text ledger.octets ledger.count)
+    said (codes "definition ") (written_definition ledger.limits)
+    ++ (said (codes "lines ") (decimal ledger.lines) ++ sums_text ledger.octets ledger.count)
 
 abbrev pub fault_text : LedgerFault → List ℕ
 fault_text (TooLong length) = said (codes "too long ") (decimal length)
@@ -32,8 +34,10 @@ fault_text (Torn at) = said (codes "torn at ") (decimal at)
 
 -- the text and the status that these bytes are answered with
 pub data Tells (bytes text : List ℕ) (status : ℕ) : Type 0 where
-  values : (ledger : LedgerText) → SumsUp bytes ledger → text ≡ values_text ledger → status ≡ 0 → Tells bytes text status
-  fault : (first : LedgerFault) → fault_of bytes ≡ Some first → text ≡ fault_text first → status ≡ 3 → Tells bytes text status
+  values : (ledger : LedgerText) → SumsUp bytes ledger → text ≡ values_text ledger → status ≡ 0
+      → Tells bytes text status
+  fault : (first : LedgerFault) → fault_of bytes ≡ Some first → text ≡ fault_text first → status ≡ 3
+      → Tells bytes text status
 
 -- these bytes came from the source: all that it had, or so many as are read
 pub record TakesLedger (left left' : Option (List ℕ)) (bytes : List ℕ) : Type 0 where
@@ -47,9 +51,12 @@ TakesSome left left' = (bytes : List ℕ) × Consumes left left' bytes
 
 pub data ChecksLedger (left left' written written' : Option (List ℕ)) (status : ℕ) : Type 0 where
   -- what the bytes hold was written, or their fault
-  told : (bytes text : List ℕ) → TakesLedger left left' bytes → Tells bytes text status → Appends written written' text → ChecksLedger left left' written written' status
+  told : (bytes text : List ℕ) → TakesLedger left left' bytes → Tells bytes text status
+      → Appends written written' text → ChecksLedger left left' written written' status
   -- or a front of it
-  cut : (bytes text : List ℕ) (due : ℕ) → TakesLedger left left' bytes → Tells bytes text due → AppendsPart written written' text → status ≡ 5
+  cut : (bytes text : List ℕ) (due : ℕ) → TakesLedger left left' bytes → Tells bytes text due
+      → AppendsPart written written' text → status ≡ 5
       → ChecksLedger left left' written written' status
   -- reading failed, or there was no memory
-  unread : TakesSome left left' → Keeps written written' → (status ≡ 4) ⊎ (status ≡ 6) → ChecksLedger left left' written written' status
+  unread : TakesSome left left' → Keeps written written' → (status ≡ 4) ⊎ (status ≡ 6)
+      → ChecksLedger left left' written written' status

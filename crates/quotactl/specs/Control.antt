@@ -29,7 +29,8 @@ exit_status WriteFault = 5
 exit_status NoMemory = 6
 
 abbrev pub usage_line : List ℕ
-usage_line = codes "usage: quotactl session N | imap [ACCOUNT] | jmap | policy | recalc ACCOUNT | check | workload N\n"
+usage_line = codes
+    "usage: quotactl session N | imap [ACCOUNT] | jmap | policy | recalc ACCOUNT | check | workload N\n"
 
 abbrev pub units_of_storage : ℕ → LimitNumbers
 units_of_storage n = record { octets = Some (1024 * n); count = None }
@@ -39,7 +40,8 @@ abbrev pub fresh : ℕ → Owned
 fresh n = record { origin = plain_origin (units_of_storage n); history = [] }
 
 abbrev pub fresh_owner : ℕ → Answers (List Entry) Call Answer
-fresh_owner n = owner plain_roots (plain_setup (units_of_storage n)).journal (plain_account (units_of_storage n))
+fresh_owner n = owner plain_roots (plain_setup (units_of_storage n)).journal
+    (plain_account (units_of_storage n))
 
 -- the session of such an account that an input gives
 abbrev pub session_of : ℕ → List ℕ → Transcript
@@ -48,17 +50,24 @@ session_of n input = transcript imap (fresh_owner n) input_limit [] input
 -- what comes of an account with so many units, and of a session of it
 pub data Runs (left left' written written' : Option (List ℕ)) (n status : ℕ) : Type 0 where
   -- the session was served to its end
-  served : (account' : Owned) (end : SessionEnd) → IsSession left left' written written' (fresh n) account' end → status ≡ exit_status end → Runs left left' written written' n status
+  served : (account' : Owned) (end : SessionEnd) → IsSession left left' written written'
+      (fresh n) account' end → status ≡ exit_status end → Runs left left' written written' n status
   -- there was no memory for the account
-  no_account : Keeps left left' → Keeps written written' → status ≡ 6 → Runs left left' written written' n status
+  no_account : Keeps left left' → Keeps written written' → status ≡ 6
+      → Runs left left' written written' n status
 
 -- what the program does, by its words
-pub data Controls (words : List (List ℕ)) (left left' written written' : Option (List ℕ)) (status : ℕ) : Type 0 where
+pub data Controls (words : List (List ℕ)) (left left' written written' : Option (List ℕ))
+    (status : ℕ) : Type 0 where
   -- a session of an account with N units
-  runs : (n : ℕ) → IsForm words (Session n) → Runs left left' written written' n status → Controls words left left' written written' status
+  runs : (n : ℕ) → IsForm words (Session n) → Runs left left' written written' n status
+      → Controls words left left' written written' status
   -- what a ledger holds
-  checks : IsForm words Check → ChecksLedger left left' written written' status → Controls words left left' written written' status
+  checks : IsForm words Check → ChecksLedger left left' written written' status
+      → Controls words left left' written written' status
   -- the words are of no form, and the usage line says so
-  refuses : IsNoForm words → Keeps left left' → Appends written written' usage_line → status ≡ 1 → Controls words left left' written written' status
+  refuses : IsNoForm words → Keeps left left' → Appends written written' usage_line → status ≡ 1
+      → Controls words left left' written written' status
   -- or a front of it does
-  breaks_off : IsNoForm words → Keeps left left' → AppendsPart written written' usage_line → status ≡ 5 → Controls words left left' written written' status
+  breaks_off : IsNoForm words → Keeps left left' → AppendsPart written written' usage_line
+      → status ≡ 5 → Controls words left left' written written' status

@@ -39,7 +39,8 @@ line_request None = not_built
 
 -- a line is a request, whatever it says, and so many bytes that hold no line's end are too long
 abbrev pub whole : List ℕ → Option Request
-whole text = if list_any (λ b. b == 10) text then Some (line_request (command_in true text)) else if nat_le max_text (length text) then Some too_long else None
+whole text = if list_any (λ b. b == 10) text then Some (line_request (command_in true text))
+    else if nat_le max_text (length text) then Some too_long else None
 
 -- the roots of the session's account
 abbrev pub session_roots : List RootSpec

@@ -10,10 +10,13 @@ use Rattle.account_core.specs.History.{Answer, replied, journal_full, reply, ent
 abbrev pub is_full : ℕ → List Entry → Bool
 is_full journal history = nat_le journal (length history)
 
--- What a call is answered after a history, and the history then, of an account with these roots that was
--- so when it was opened: each call is an entry, up to the journal's limit.
-abbrev pub owner : List RootSpec → (journal : ℕ) → (opening : Account) → Answers (List Entry) Call Answer
+-- What a call is answered after a history, and the history then, of an account with these roots
+-- that was so when it was opened: each call is an entry, up to the journal's limit.
+abbrev pub owner : List RootSpec → (journal : ℕ) → (opening : Account)
+    → Answers (List Entry) Call Answer
 owner roots journal opening = record {
-  answer = λ history call. if is_full journal history then journal_full else replied (reply roots opening history call);
-  after = λ history call. if is_full journal history then history else history ++ entry_of 0 call false ∷ [];
+  answer = λ history call. if is_full journal history then journal_full
+      else replied (reply roots opening history call);
+  after = λ history call. if is_full journal history then history
+      else history ++ entry_of 0 call false ∷ [];
 }

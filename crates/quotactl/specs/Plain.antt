@@ -1,4 +1,5 @@
--- The account that `session` is for: that of the table of one account, opened over a store without files.
+-- The account that `session` is for: that of the table of one account, opened over a store without
+-- files.
 use Rattle.std.specs.Prelude.{Some}
 use Rattle.quota_units.specs.Limiting.{LimitNumbers}
 use Rattle.keeper.specs.Files.{no_files}

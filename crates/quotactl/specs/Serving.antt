@@ -27,16 +27,18 @@ abbrev pub NeverStore : List (Call × Answer) → Type 0
 NeverStore [] = Unit {0}
 NeverStore ((call, answer) ∷ log) = (answer ≢ store) × NeverStore log
 
--- The calls of the account's one owner, with their answers: each is the machine's at the call's place in the one history,
--- which is the old one and these calls.
+-- The calls of the account's one owner, with their answers: each is the machine's at the call's
+-- place in the one history, which is the old one and these calls.
 pub record Owns (account account' : Owned) (log : List (Call × Answer)) : Type 0 where
   pub origin : account'.origin ≡ account.origin
   pub logged : Logged AreNone account.origin 0 account.history log account'.history
   pub history : account'.history ≡ account.history ++ entries_of 0 log
   pub no_store : NeverStore log
 
--- The bytes that left the source, the calls with their answers, the bytes that the sink gained and the end are a session of IMAP.
-pub record IsSession (left left' written written' : Option (List ℕ)) (account account' : Owned) (end : SessionEnd) : Type 0 where
+-- The bytes that left the source, the calls with their answers, the bytes that the sink gained and
+-- the end are a session of IMAP.
+pub record IsSession (left left' written written' : Option (List ℕ)) (account account' : Owned)
+    (end : SessionEnd) : Type 0 where
   pub taken : List ℕ
   pub log : List (Call × Answer)
   pub text : List ℕ
@@ -57,7 +59,8 @@ pub record Answered (account account' : Owned) (bytes text : List ℕ) (after : 
 pub record Abandoned (account account' : Owned) (bytes : List ℕ) : Type 0 where
   pub log : List (Call × Answer)
   pub owned : Owns account account' log
-  pub begun : (log ≡ []) ⊎ ((request : Request) × Spells imap tt bytes request × AsksFirst (work request) log)
+  pub begun : (log ≡ [])
+      ⊎ ((request : Request) × Spells imap tt bytes request × AsksFirst (work request) log)
 
 -- the account was asked, and this text answers the command of this kind and tag
 abbrev pub AnswersCall : Owned → Owned → Call → CommandKind → (tag text : List ℕ) → Type 0
@@ -67,24 +70,33 @@ AnswersCall account account' call kind tag text =
 
 -- the account was asked or was not
 abbrev pub LeavesCall : Owned → Owned → Call → Type 0
-LeavesCall account account' call = (log : List (Call × Answer)) × Owns account account' log × ((log ≡ []) ⊎ ((answer : Answer) × (log ≡ (call, answer) ∷ [])))
+LeavesCall account account' call = (log : List (Call × Answer)) × Owns account account' log
+    × ((log ≡ []) ⊎ ((answer : Answer) × (log ≡ (call, answer) ∷ [])))
 
 -- the work for a command with this tag was done, and this is its text
 abbrev pub AnswersCommand : Owned → Owned → List ℕ → Command → List ℕ → After → Type 0
-AnswersCommand account account' tag command text after = (log : List (Call × Answer)) × Does (work_of tag command) log text after × Owns account account' log
+AnswersCommand account account' tag command text after = (log : List (Call × Answer))
+    × Does (work_of tag command) log text after × Owns account account' log
 
 -- at most the first calls for a command with this tag were made
 abbrev pub LeavesCommand : Owned → Owned → List ℕ → Command → Type 0
-LeavesCommand account account' tag command = (log : List (Call × Answer)) × Owns account account' log × AsksFirst (work_of tag command) log
+LeavesCommand account account' tag command = (log : List (Call × Answer))
+    × Owns account account' log × AsksFirst (work_of tag command) log
 
--- what came of the bytes of a request: the text that answers them, or the session's end with nothing written for them
-abbrev pub Comes : Type 0 → (at : ℕ) → (given waiting : List ℕ) → List (Call × Answer) → (text : List ℕ) → Result After SessionEnd → Type 0
+-- what came of the bytes of a request: the text that answers them, or the session's end with
+-- nothing written for them
+abbrev pub Comes : Type 0 → (at : ℕ) → (given waiting : List ℕ) → List (Call × Answer)
+    → (text : List ℕ) → Result After SessionEnd → Type 0
 Comes nothing_left at given waiting log text (Ok after) =
-    (x : Exchange Request Call Answer) × IsExchange imap tt x after × (given ≡ x.bytes) × (log ≡ x.log) × (text ≡ x.text)
-Comes nothing_left at given waiting log text (Err end) = Ends imap input_limit nothing_left tt at (given ++ waiting) log [] end
+    (x : Exchange Request Call Answer) × IsExchange imap tt x after × (given ≡ x.bytes)
+    × (log ≡ x.log) × (text ≡ x.text)
+Comes nothing_left at given waiting log text (Err end) =
+    Ends imap input_limit nothing_left tt at (given ++ waiting) log [] end
 
 -- a request was taken from the feed, and its answer made
-pub record TakesRequest (left left' : Option (List ℕ)) (waiting waiting' : List ℕ) (taken taken' at at' : ℕ) (account account' : Owned) (text : List ℕ) (result : Result After SessionEnd) : Type 0 where
+pub record TakesRequest (left left' : Option (List ℕ)) (waiting waiting' : List ℕ)
+    (taken taken' at at' : ℕ) (account account' : Owned) (text : List ℕ)
+    (result : Result After SessionEnd) : Type 0 where
   pub given : List ℕ
   pub log : List (Call × Answer)
   pub hands : Hands left left' waiting waiting' taken taken' given
@@ -93,13 +105,18 @@ pub record TakesRequest (left left' : Option (List ℕ)) (waiting waiting' : Lis
   pub comes : Comes (IsAtEnd left') at given waiting' log text result
 
 -- what was written for the bytes of a request, and how the session ends in it or does not
-abbrev pub Served : Type 0 → (at : ℕ) → (given waiting : List ℕ) → List (Call × Answer) → (text : List ℕ) → Result After SessionEnd → Type 0
+abbrev pub Served : Type 0 → (at : ℕ) → (given waiting : List ℕ) → List (Call × Answer)
+    → (text : List ℕ) → Result After SessionEnd → Type 0
 Served nothing_left at given waiting log text (Ok after) =
-    (x : Exchange Request Call Answer) × IsExchange imap tt x after × (given ≡ x.bytes) × (log ≡ x.log) × (text ≡ x.text)
-Served nothing_left at given waiting log text (Err end) = Ends imap input_limit nothing_left tt at (given ++ waiting) log text end
+    (x : Exchange Request Call Answer) × IsExchange imap tt x after × (given ≡ x.bytes)
+    × (log ≡ x.log) × (text ≡ x.text)
+Served nothing_left at given waiting log text (Err end) =
+    Ends imap input_limit nothing_left tt at (given ++ waiting) log text end
 
 -- a request was taken from the feed, and its answer written
-pub record ServesRequest (left left' written written' : Option (List ℕ)) (waiting waiting' : List ℕ) (taken taken' at at' : ℕ) (account account' : Owned) (result : Result After SessionEnd) : Type 0 where
+pub record ServesRequest (left left' written written' : Option (List ℕ))
+    (waiting waiting' : List ℕ) (taken taken' at at' : ℕ) (account account' : Owned)
+    (result : Result After SessionEnd) : Type 0 where
   pub given : List ℕ
   pub log : List (Call × Answer)
   pub text : List ℕ
@@ -110,7 +127,8 @@ pub record ServesRequest (left left' written written' : Option (List ℕ)) (wait
   pub served : Served (IsAtEnd left') at given waiting' log text result
 
 -- what a session does once its greeting is written
-pub record IsServed (left left' written written' : Option (List ℕ)) (account account' : Owned) (end : SessionEnd) : Type 0 where
+pub record IsServed (left left' written written' : Option (List ℕ)) (account account' : Owned)
+    (end : SessionEnd) : Type 0 where
   pub taken : List ℕ
   pub log : List (Call × Answer)
   pub text : List ℕ
@@ -119,7 +137,8 @@ pub record IsServed (left left' written written' : Option (List ℕ)) (account a
   pub owned : Owns account account' log
   pub worked : IsWorked imap input_limit (IsAtEnd left') taken log (greeting ++ text) end
 
--- the session's end where the feed ends, within a request that begins at this place and of which so many bytes came
+-- the session's end where the feed ends, within a request that begins at this place and of which so
+-- many bytes came
 abbrev pub end_at : FeedEnd → (at come : ℕ) → SessionEnd
 end_at Fault at come = ReadFault
 end_at Limit at come = InputLimit

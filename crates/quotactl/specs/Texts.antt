@@ -1,4 +1,5 @@
--- The lines that an IMAP session writes: RFC 9208, on the QUOTA and QUOTAROOT responses; the texts after OK, NO, BAD and BYE are this project's own.
+-- The lines that an IMAP session writes: RFC 9208, on the QUOTA and QUOTAROOT responses; the texts
+-- after OK, NO, BAD and BYE are this project's own.
 use Rattle.std.specs.Prelude.{◌≡◌, ◌≢◌, ℕ, List, [], ◌++◌, codes, Option, None, Some}
 use Rattle.std.specs.List.{flat_map}
 use Rattle.std.specs.Fmt.{decimal}
@@ -35,12 +36,14 @@ abbrev pub resources : (octets count : ℕ) → Option ℕ → Option ℕ → Li
 resources octets count None None = []
 resources octets count (Some limit) None = storage octets limit
 resources octets count None (Some limit) = message count limit
-resources octets count (Some most) (Some limit) = storage octets most ++ (codes " " ++ message count limit)
+resources octets count (Some most) (Some limit) =
+    storage octets most ++ (codes " " ++ message count limit)
 
 -- the row of the root of this name
 abbrev pub quota_line : List ℕ → RootRow → List ℕ
 quota_line name row =
-    codes "* QUOTA " ++ (printed name ++ (codes " (" ++ (resources row.octets row.count row.limits.octets row.limits.count ++ (codes ")" ++ crlf))))
+    codes "* QUOTA " ++ (printed name ++ (codes " ("
+    ++ (resources row.octets row.count row.limits.octets row.limits.count ++ (codes ")" ++ crlf))))
 
 -- the row of a root of these
 abbrev pub root_line : List RootSpec → RootRow → List ℕ
@@ -52,7 +55,8 @@ root_after_space roots row = codes " " ++ printed (name_at roots row.root)
 
 -- the mailbox and the names of the roots that govern it: RFC 9208, on the QUOTAROOT response
 abbrev pub quota_root_line : List RootSpec → List ℕ → List RootRow → List ℕ
-quota_root_line roots mailbox rows = codes "* QUOTAROOT " ++ (printed mailbox ++ (flat_map (root_after_space roots) rows ++ crlf))
+quota_root_line roots mailbox rows =
+    codes "* QUOTAROOT " ++ (printed mailbox ++ (flat_map (root_after_space roots) rows ++ crlf))
 
 -- a name that no root has
 abbrev pub no_root_text : List ℕ → List ℕ

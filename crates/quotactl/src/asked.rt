@@ -106,7 +106,8 @@ fn has_repeats(asked: &[AskedLimit]) -> bool
 ///
 /// # Errors
 ///
-/// The refusals are looked for in the whole list, one after the other: `Unknown`, `Repeated`, `Unsupported`.
+/// The refusals are looked for in the whole list, one after the other: `Unknown`, `Repeated`,
+/// `Unsupported`.
 pub fn limits_of(asked: &[AskedLimit]) -> Result<Limits, Refusal>
     ensures { result ≡ limits_asked asked.now }
 {

@@ -25,9 +25,11 @@ enum Unread {
 
 /// All bytes of the source, or so many as are read.
 fn ledger_bytes<S: Source>(alloc: Global, source: &mut S) -> Result<Vec<u8>, Unread>
-    ensures ok { IfOk result (λ bytes. TakesLedger (S.left source.old) (S.left source.new) bytes.items) }
+    ensures ok { IfOk result
+        (λ bytes. TakesLedger (S.left source.old) (S.left source.new) bytes.items) }
     ensures err { IfErr result (λ e. TakesSome (S.left source.old) (S.left source.new)) }
-    ensures read_fault { result ≡ Err Unread.Fault → Rose (S.faults source.old) (S.faults source.new) }
+    ensures read_fault { result ≡ Err Unread.Fault
+        → Rose (S.faults source.old) (S.faults source.new) }
     ensures read_kept { result ≢ Err Unread.Fault → S.faults source.new ≡ S.faults source.old }
 {
     let mut bytes = Vec::new(alloc);
@@ -60,7 +62,8 @@ fn push_number<I: Integer>(out: &mut Vec<u8>, words: &[u8], number: I) -> Result
 
 /// The limits of a ledger's definition, as they are written.
 fn push_definition(out: &mut Vec<u8>, limits: &Limits) -> Result<(), AllocError>
-    ensures { OnOk result (out.new.items ≡ out.old.items ++ said (codes "definition ") (written_definition limits.now)) }
+    ensures { OnOk result (out.new.items ≡ out.old.items
+        ++ said (codes "definition ") (written_definition limits.now)) }
 {
     let mut definition = Text::new();
     print_definition(limits, &mut definition);
@@ -83,7 +86,8 @@ fn count_of(ledger: &LedgerText) -> i128
 
 /// The sums of a ledger.
 fn push_sums(out: &mut Vec<u8>, ledger: &LedgerText) -> Result<(), AllocError>
-    ensures { OnOk result (out.new.items ≡ out.old.items ++ sums_text ledger.now.octets ledger.now.count) }
+    ensures { OnOk result
+        (out.new.items ≡ out.old.items ++ sums_text ledger.now.octets ledger.now.count) }
 {
     push_number(out, b"octets ", octets_of(ledger))?;
     push_number(out, b"messages ", count_of(ledger))
@@ -127,10 +131,11 @@ fn told(alloc: Global, bytes: &[u8]) -> Result<(Vec<u8>, u8), AllocError>
     }
 }
 
-/// Reads a ledger from the source, to its end or 65536 bytes of it, and writes what it holds, or what is wrong with it. Gives the
-/// exit status.
+/// Reads a ledger from the source, to its end or 65536 bytes of it, and writes what it holds, or
+/// what is wrong with it. Gives the exit status.
 pub fn check<S: Source, O: Sink>(alloc: Global, source: &mut S, sink: &mut O) -> u8
-    ensures checks { ChecksLedger (S.left source.old) (S.left source.new) (O.written sink.old) (O.written sink.new) result }
+    ensures checks { ChecksLedger (S.left source.old) (S.left source.new) (O.written sink.old)
+        (O.written sink.new) result }
     ensures read_fault { result ≡ 4 → Rose (S.faults source.old) (S.faults source.new) }
     ensures read_kept { result ≢ 4 → S.faults source.new ≡ S.faults source.old }
     ensures write_fault { result ≡ 5 → Rose (O.faults sink.old) (O.faults sink.new) }

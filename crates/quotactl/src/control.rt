@@ -43,7 +43,8 @@ fn status(end: SessionEnd) -> u8
 fn run<S: Source, O: Sink>(alloc: Global, units: u64, source: &mut S, sink: &mut O) -> u8
     requires some { 0 < units }
     requires bounded { units ≤ 8796093022207 }
-    ensures runs { Runs (S.left source.old) (S.left source.new) (O.written sink.old) (O.written sink.new) units result }
+    ensures runs { Runs (S.left source.old) (S.left source.new) (O.written sink.old)
+        (O.written sink.new) units result }
     ensures read_fault { result ≡ 4 → Rose (S.faults source.old) (S.faults source.new) }
     ensures read_kept { result ≢ 4 → S.faults source.new ≡ S.faults source.old }
     ensures write_fault { result ≡ 5 → Rose (O.faults sink.old) (O.faults sink.new) }
@@ -60,9 +61,10 @@ fn run<S: Source, O: Sink>(alloc: Global, units: u64, source: &mut S, sink: &mut
 
 /// Does what the words of `quotactl` say, over a source and a sink, and gives the exit status.
 ///
-/// The words are those after the program's name. `session N`, with N from 1 to 8796093022207 in decimal digits with no
-/// leading zero, is a session of IMAP for the owner of an account with N units of storage of 1024 octets. `check` says what a
-/// ledger holds. Any other words are answered with the usage line and status 1.
+/// The words are those after the program's name. `session N`, with N from 1 to 8796093022207 in
+/// decimal digits with no leading zero, is a session of IMAP for the owner of an account with N
+/// units of storage of 1024 octets. `check` says what a ledger holds. Any other words are answered
+/// with the usage line and status 1.
 pub fn control<S: Source, O: Sink>(
     alloc: Global,
     words: &[String],
@@ -70,7 +72,8 @@ pub fn control<S: Source, O: Sink>(
     sink: &mut O,
 ) -> u8
     // What the words say is done, or they are of no form and the usage line says so.
-    ensures controls { Controls (map string_bytes words.now) (S.left source.old) (S.left source.new) (O.written sink.old) (O.written sink.new) result }
+    ensures controls { Controls (map string_bytes words.now) (S.left source.old) (S.left source.new)
+        (O.written sink.old) (O.written sink.new) result }
 
     // A fault is told where it came, and only there.
     ensures read_fault { result ≡ 4 → Rose (S.faults source.old) (S.faults source.new) }
@@ -78,15 +81,21 @@ pub fn control<S: Source, O: Sink>(
     ensures write_fault { result ≡ 5 → Rose (O.faults sink.old) (O.faults sink.new) }
     ensures write_kept { result ≢ 5 → O.faults sink.new ≡ O.faults sink.old }
 
-    // Where nothing failed, words and input decide the status and all that is written, but for want of memory.
-    ensures output { (n : ℕ) → IsForm (map string_bytes words.now) (Form.Session n) → IfSome (S.left source.old) (λ input.
-        (Rose (S.faults source.old) (S.faults source.new) → ⊥) → (Rose (O.faults sink.old) (O.faults sink.new) → ⊥) → result ≢ 6
-        → (result ≡ exit_status (session_of n input).end) × Appends (O.written sink.old) (O.written sink.new) (greeting ++ (session_of n input).text)) }
-    ensures checked { IsForm (map string_bytes words.now) Form.Check → IfSome (S.left source.old) (λ input.
-        (Rose (S.faults source.old) (S.faults source.new) → ⊥) → (Rose (O.faults sink.old) (O.faults sink.new) → ⊥) → result ≢ 6
-        → (text : List ℕ) × Tells (take max_checked input) text result × Appends (O.written sink.old) (O.written sink.new) text) }
-    ensures usage { IsNoForm (map string_bytes words.now) → (Rose (O.faults sink.old) (O.faults sink.new) → ⊥)
-        → (result ≡ 1) × Appends (O.written sink.old) (O.written sink.new) usage_line }
+    // Where nothing failed, words and input decide the status and all that is written, but for want
+    // of memory.
+    ensures output { (n : ℕ) → IsForm (map string_bytes words.now) (Form.Session n)
+        → IfSome (S.left source.old) (λ input. (Rose (S.faults source.old) (S.faults source.new)
+        → ⊥) → (Rose (O.faults sink.old) (O.faults sink.new) → ⊥) → result ≢ 6
+        → (result ≡ exit_status (session_of n input).end) × Appends (O.written sink.old)
+        (O.written sink.new) (greeting ++ (session_of n input).text)) }
+    ensures checked { IsForm (map string_bytes words.now) Form.Check
+        → IfSome (S.left source.old) (λ input. (Rose (S.faults source.old) (S.faults source.new)
+        → ⊥) → (Rose (O.faults sink.old) (O.faults sink.new) → ⊥) → result ≢ 6
+        → (text : List ℕ) × Tells (take max_checked input) text result
+        × Appends (O.written sink.old) (O.written sink.new) text) }
+    ensures usage { IsNoForm (map string_bytes words.now)
+        → (Rose (O.faults sink.old) (O.faults sink.new) → ⊥) → (result ≡ 1)
+        × Appends (O.written sink.old) (O.written sink.new) usage_line }
 {
     match form_of(words) {
         Some(Form::Session { units }) => run(alloc, units, source, sink),

@@ -15,7 +15,8 @@ pub enum Form {
     Check,
 }
 
-/// The units of storage that a word names: 1 to 8796093022207, in decimal digits with no leading zero.
+/// The units of storage that a word names: 1 to 8796093022207, in decimal digits with no leading
+/// zero.
 fn units_in(word: &[u8]) -> Option<u64>
     ensures some { IfSome result (λ n. (word.now ≡ decimal n) × (0 < n) × (n ≤ 8796093022207)) }
     ensures none { IfNone result ((n : ℕ) → word.now ≡ decimal n → 0 < n → n ≤ 8796093022207 → ⊥) }

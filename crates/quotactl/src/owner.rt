@@ -14,8 +14,8 @@ use quota_units::{Limits, NoMemory};
 use std::alloc::Global;
 use std::marker::Model;
 
-/// The account of a session, with its one owner. Contracts see where its history begins, that is what it was opened with, and the
-/// history.
+/// The account of a session, with its one owner. Contracts see where its history begins, that is
+/// what it was opened with, and the history.
 #[derive(Drop)]
 pub struct Owner {
     state: AccountState<FixedKeeper>,
@@ -67,11 +67,13 @@ impl Owner {
         b""
     }
 
-    /// Answers a call of the account's owner, who is caller 0: one of `Quota`, `SetLimits` and `Roots`.
+    /// Answers a call of the account's owner, who is caller 0: one of `Quota`, `SetLimits` and
+    /// `Roots`.
     ///
     /// # Errors
     ///
-    /// `JournalFull` where the history holds 65536 entries, and `NoMemory`; both leave the history as it was.
+    /// `JournalFull` where the history holds 65536 entries, and `NoMemory`; both leave the history
+    /// as it was.
     pub fn serve(&mut self, alloc: Global, call: Call) -> Result<Reply, StepError>
         requires { IsAsked call }
         ensures plain { IsPlainAccount self.old }

@@ -74,8 +74,10 @@ fn answer_get_quota(
     text: &mut Vec<u8>,
 ) -> Result<(), NoMemory>
     requires { text.old.items ≡ [] }
-    ensures ok { OnOk result (AnswersCommand account.old account.new tag.now (Command.GetQuota root) text.new.items After.Open) }
-    ensures err { OnErr result (LeavesCommand account.old account.new tag.now (Command.GetQuota root)) }
+    ensures ok { OnOk result (AnswersCommand account.old account.new tag.now
+        (Command.GetQuota root) text.new.items After.Open) }
+    ensures err { OnErr result
+        (LeavesCommand account.old account.new tag.now (Command.GetQuota root)) }
 {
     match root.into_name() {
         Ok(root) => answer_call(
@@ -99,8 +101,10 @@ fn answer_get_quota_root(
     text: &mut Vec<u8>,
 ) -> Result<(), NoMemory>
     requires { text.old.items ≡ [] }
-    ensures ok { OnOk result (AnswersCommand account.old account.new tag.now (Command.GetQuotaRoot mailbox.now) text.new.items After.Open) }
-    ensures err { OnErr result (LeavesCommand account.old account.new tag.now (Command.GetQuotaRoot mailbox.now)) }
+    ensures ok { OnOk result (AnswersCommand account.old account.new tag.now
+        (Command.GetQuotaRoot mailbox.now) text.new.items After.Open) }
+    ensures err { OnErr result
+        (LeavesCommand account.old account.new tag.now (Command.GetQuotaRoot mailbox.now)) }
 {
     let mailbox = canonical_spelling(mailbox);
     match Name::of(alloc, mailbox) {
@@ -127,8 +131,10 @@ fn answer_set_quota(
     text: &mut Vec<u8>,
 ) -> Result<(), NoMemory>
     requires { text.old.items ≡ [] }
-    ensures ok { OnOk result (AnswersCommand account.old account.new tag.now (Command.SetQuota root limits.now) text.new.items After.Open) }
-    ensures err { OnErr result (LeavesCommand account.old account.new tag.now (Command.SetQuota root limits.now)) }
+    ensures ok { OnOk result (AnswersCommand account.old account.new tag.now
+        (Command.SetQuota root limits.now) text.new.items After.Open) }
+    ensures err { OnErr result
+        (LeavesCommand account.old account.new tag.now (Command.SetQuota root limits.now)) }
 {
     match limits_of(limits) {
         Err(refusal) => answer_words(tag, refusal.words(), text),
@@ -146,7 +152,8 @@ fn answer_set_quota(
     }
 }
 
-/// Makes what answers a line, with the calls that it asks for, and says what the session does after it.
+/// Makes what answers a line, with the calls that it asks for, and says what the session does after
+/// it.
 fn answer_line(
     alloc: Global,
     account: &mut Owner,
@@ -156,7 +163,8 @@ fn answer_line(
     requires line { IsLine line.now }
     requires short { length line.now ≤ max_text }
     requires empty { text.old.items ≡ [] }
-    ensures ok { IfOk result (λ after. Answered account.old account.new line.now text.new.items after) }
+    ensures ok { IfOk result
+        (λ after. Answered account.old account.new line.now text.new.items after) }
     ensures err { OnErr result (Abandoned account.old account.new line.now) }
 {
     match read_tagged(alloc, line, true) {
@@ -187,7 +195,8 @@ fn answer_command(
     text: &mut Vec<u8>,
 ) -> Result<After, NoMemory>
     requires { text.old.items ≡ [] }
-    ensures ok { IfOk result (λ after. AnswersCommand account.old account.new tag.now command text.new.items after) }
+    ensures ok { IfOk result
+        (λ after. AnswersCommand account.old account.new tag.now command text.new.items after) }
     ensures err { OnErr result (LeavesCommand account.old account.new tag.now command) }
 {
     match command {
@@ -214,7 +223,8 @@ fn answer_command(
     }
 }
 
-/// The session's end where the feed ends, within a request that begins at `at` and of which so many bytes came.
+/// The session's end where the feed ends, within a request that begins at `at` and of which so many
+/// bytes came.
 fn end_of(end: FeedEnd, at: u64, come: usize) -> SessionEnd
     ensures { result ≡ end_at end at come }
 {
@@ -241,13 +251,15 @@ fn take_request<S: Source>(
     requires no_line { line.old.items ≡ [] }
     requires no_text { text.old.items ≡ [] }
     ensures takes { TakesRequest (S.left (source_of feed.old)) (S.left (source_of feed.new))
-        (waiting_of feed.old) (waiting_of feed.new) (taken_of feed.old) (taken_of feed.new) (handed_of feed.old) (handed_of feed.new)
-        account.old account.new text.new.items result }
+        (waiting_of feed.old) (waiting_of feed.new) (taken_of feed.old) (taken_of feed.new)
+        (handed_of feed.old) (handed_of feed.new) account.old account.new text.new.items result }
     ensures same_source { source_name feed.new ≡ source_name feed.old }
     ensures same_limit { limit_of feed.new ≡ input_limit }
     ensures within { taken_of feed.new ≤ input_limit }
-    ensures read_fault { result ≡ Err SessionEnd.ReadFault → Rose (S.faults (source_of feed.old)) (S.faults (source_of feed.new)) }
-    ensures read_kept { result ≢ Err SessionEnd.ReadFault → S.faults (source_of feed.new) ≡ S.faults (source_of feed.old) }
+    ensures read_fault { result ≡ Err SessionEnd.ReadFault
+        → Rose (S.faults (source_of feed.old)) (S.faults (source_of feed.new)) }
+    ensures read_kept { result ≢ Err SessionEnd.ReadFault
+        → S.faults (source_of feed.new) ≡ S.faults (source_of feed.old) }
     ensures not_written { result ≢ Err SessionEnd.WriteFault }
 {
     let at = feed.at();
@@ -274,17 +286,22 @@ fn serve_request<S: Source, O: Sink>(
     text: &mut Vec<u8>,
 ) -> Result<After, SessionEnd>
     requires { limit_of feed.old ≡ input_limit }
-    ensures serves { ServesRequest (S.left (source_of feed.old)) (S.left (source_of feed.new)) (O.written sink.old) (O.written sink.new)
-        (waiting_of feed.old) (waiting_of feed.new) (taken_of feed.old) (taken_of feed.new) (handed_of feed.old) (handed_of feed.new)
-        account.old account.new result }
+    ensures serves { ServesRequest (S.left (source_of feed.old)) (S.left (source_of feed.new))
+        (O.written sink.old) (O.written sink.new) (waiting_of feed.old)
+        (waiting_of feed.new) (taken_of feed.old) (taken_of feed.new) (handed_of feed.old)
+        (handed_of feed.new) account.old account.new result }
     ensures same_source { source_name feed.new ≡ source_name feed.old }
     ensures same_limit { limit_of feed.new ≡ input_limit }
     ensures within { taken_of feed.new ≤ input_limit }
     ensures progress { OnOk result (handed_of feed.old < handed_of feed.new) }
-    ensures read_fault { result ≡ Err SessionEnd.ReadFault → Rose (S.faults (source_of feed.old)) (S.faults (source_of feed.new)) }
-    ensures read_kept { result ≢ Err SessionEnd.ReadFault → S.faults (source_of feed.new) ≡ S.faults (source_of feed.old) }
-    ensures write_fault { result ≡ Err SessionEnd.WriteFault → Rose (O.faults sink.old) (O.faults sink.new) }
-    ensures write_kept { result ≢ Err SessionEnd.WriteFault → O.faults sink.new ≡ O.faults sink.old }
+    ensures read_fault { result ≡ Err SessionEnd.ReadFault
+        → Rose (S.faults (source_of feed.old)) (S.faults (source_of feed.new)) }
+    ensures read_kept { result ≢ Err SessionEnd.ReadFault
+        → S.faults (source_of feed.new) ≡ S.faults (source_of feed.old) }
+    ensures write_fault { result ≡ Err SessionEnd.WriteFault
+        → Rose (O.faults sink.old) (O.faults sink.new) }
+    ensures write_kept { result ≢ Err SessionEnd.WriteFault
+        → O.faults sink.new ≡ O.faults sink.old }
 {
     line.clear();
     text.clear();
@@ -308,11 +325,15 @@ fn serve_all<S: Source, O: Sink>(
     requires empty { waiting_of feed.old ≡ [] }
     requires untaken { taken_of feed.old ≡ 0 }
     requires at_start { handed_of feed.old ≡ 0 }
-    ensures served { IsServed (S.left (source_of feed.old)) (S.left (source_of feed.new)) (O.written sink.old) (O.written sink.new) account.old account.new result }
+    ensures served { IsServed (S.left (source_of feed.old)) (S.left (source_of feed.new))
+        (O.written sink.old) (O.written sink.new) account.old account.new result }
     ensures same_source { source_name feed.new ≡ source_name feed.old }
-    ensures read_fault { result ≡ SessionEnd.ReadFault → Rose (S.faults (source_of feed.old)) (S.faults (source_of feed.new)) }
-    ensures read_kept { result ≢ SessionEnd.ReadFault → S.faults (source_of feed.new) ≡ S.faults (source_of feed.old) }
-    ensures write_fault { result ≡ SessionEnd.WriteFault → Rose (O.faults sink.old) (O.faults sink.new) }
+    ensures read_fault { result ≡ SessionEnd.ReadFault
+        → Rose (S.faults (source_of feed.old)) (S.faults (source_of feed.new)) }
+    ensures read_kept { result ≢ SessionEnd.ReadFault
+        → S.faults (source_of feed.new) ≡ S.faults (source_of feed.old) }
+    ensures write_fault { result ≡ SessionEnd.WriteFault
+        → Rose (O.faults sink.old) (O.faults sink.new) }
     ensures write_kept { result ≢ SessionEnd.WriteFault → O.faults sink.new ≡ O.faults sink.old }
 {
     let mut line = Vec::new(alloc);
@@ -327,7 +348,8 @@ fn serve_all<S: Source, O: Sink>(
     }
 }
 
-/// Serves a session to its end: IMAP for the account's owner, over the bytes of the source, into the sink.
+/// Serves a session to its end: IMAP for the account's owner, over the bytes of the source, into
+/// the sink.
 ///
 /// At most 1073741824 bytes are taken.
 pub fn run_session<S: Source, O: Sink>(
@@ -336,19 +358,24 @@ pub fn run_session<S: Source, O: Sink>(
     source: &mut S,
     sink: &mut O,
 ) -> SessionEnd
-    // What is written answers what is read, each reply being the account machine's at its call's place in the one history.
-    ensures session { IsSession (S.left source.old) (S.left source.new) (O.written sink.old) (O.written sink.new) account.old account.new result }
+    // What is written answers what is read, each reply being the account machine's at its call's
+    // place in the one history.
+    ensures session { IsSession (S.left source.old) (S.left source.new) (O.written sink.old)
+        (O.written sink.new) account.old account.new result }
     ensures plain { IsPlainAccount account.old }
 
     // A fault is told where it came, and only there.
-    ensures read_fault { result ≡ SessionEnd.ReadFault → Rose (S.faults source.old) (S.faults source.new) }
+    ensures read_fault { result ≡ SessionEnd.ReadFault
+        → Rose (S.faults source.old) (S.faults source.new) }
     ensures read_kept { result ≢ SessionEnd.ReadFault → S.faults source.new ≡ S.faults source.old }
-    ensures write_fault { result ≡ SessionEnd.WriteFault → Rose (O.faults sink.old) (O.faults sink.new) }
+    ensures write_fault { result ≡ SessionEnd.WriteFault
+        → Rose (O.faults sink.old) (O.faults sink.new) }
     ensures write_kept { result ≢ SessionEnd.WriteFault → O.faults sink.new ≡ O.faults sink.old }
 
     // The input decides an end, and if nothing failed, the session ends so, unless memory ran out.
-    ensures decided { IfSome (S.left source.old) (λ input. EndsAsDecided imap input_limit input
-        (Rose (S.faults source.old) (S.faults source.new) ⊎ Rose (O.faults sink.old) (O.faults sink.new)) result) }
+    ensures decided { IfSome (S.left source.old) (λ input.
+        EndsAsDecided imap input_limit input (Rose (S.faults source.old) (S.faults source.new)
+        ⊎ Rose (O.faults sink.old) (O.faults sink.new)) result) }
 {
     account.show_opening();
     if let Err(Failed) = send(sink, GREETING) {

@@ -7,7 +7,8 @@ use wire_io::{MemSink, MemSource};
 const USAGE: &[u8] =
     b"usage: quotactl session N | imap [ACCOUNT] | jmap | policy | recalc ACCOUNT | check | workload N\n";
 
-/// A run of the program: its words and input, the reads and writes that fail, and the room of the sink.
+/// A run of the program: its words and input, the reads and writes that fail, and the room of the
+/// sink.
 #[derive(Clone, Copy)]
 struct Run<'a> {
     words: &'a [&'a str],
@@ -487,7 +488,8 @@ fn limits_of_length_are_kept(rt: HostRuntime) -> Result<(), Fail> {
 fn faults_end_a_run_at_every_place(rt: HostRuntime) -> Result<(), Fail> {
     let session: &[u8] = b"a1 GETQUOTA \"\"\r\na2 LOGOUT\r\n";
     let ledger: &[u8] = b"1S\n1 1\n";
-    // Words and an input; its reads, and what is written if one of the first 16 fails or a later one; its writes.
+    // Words and an input; its reads, and what is written if one of the first 16 fails or a later
+    // one; its writes.
     let table: [(&[&str], &[u8], u64, usize, usize, u64); 2] = [
         (&["session", "512"], session, 27, 24, 78, 124),
         (&["check"], ledger, 7, 0, 0, 42),

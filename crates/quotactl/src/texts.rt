@@ -31,7 +31,8 @@ pub const NO_ROOT: &[u8] = b"NO No such quota root";
 /// What answers GETQUOTAROOT of a mailbox of more than 255 bytes.
 pub const NAME_TOO_LONG: &[u8] = b"NO Name too long";
 
-/// What answers a command whose call the store failed. The store of a session's account never fails.
+/// What answers a command whose call the store failed. The store of a session's account never
+/// fails.
 pub const UNAVAILABLE: &[u8] = b"NO [UNAVAILABLE] Store unavailable";
 
 /// What answers a command where the account's history is full.
@@ -87,7 +88,8 @@ fn push_message(out: &mut Vec<u8>, count: u64, limit: u64) -> Result<(), AllocEr
 
 /// Each resource that is limited.
 fn push_resources(out: &mut Vec<u8>, row: &RootRow) -> Result<(), AllocError>
-    ensures { OnOk result (out.new.items ≡ out.old.items ++ resources row.now.octets row.now.count row.now.limits.octets row.now.limits.count) }
+    ensures { OnOk result (out.new.items ≡ out.old.items
+        ++ resources row.now.octets row.now.count row.now.limits.octets row.now.limits.count) }
 {
     match (row.limits.octets(), row.limits.count()) {
         (None, None) => Ok(()),
@@ -125,7 +127,8 @@ fn push_root_after_space(
     account: &Owner,
     row: &RootRow,
 ) -> Result<(), AllocError>
-    ensures { OnOk result (out.new.items ≡ out.old.items ++ root_after_space session_roots row.now) }
+    ensures { OnOk result
+        (out.new.items ≡ out.old.items ++ root_after_space session_roots row.now) }
 {
     out.extend_from_slice(b" ")?;
     push_astring(out, account.root_name(row.root))
@@ -134,7 +137,8 @@ fn push_root_after_space(
 /// The untagged lines of these roots.
 #[tactic(auto, using(crate::proofs::Rows::rows_none, crate::proofs::Rows::rows_more, crate::proofs::Rows::rows_all))]
 fn push_root_lines(out: &mut Vec<u8>, account: &Owner, rows: &[RootRow]) -> Result<(), AllocError>
-    ensures { OnOk result (out.new.items ≡ out.old.items ++ flat_map (root_line session_roots) rows.now) }
+    ensures { OnOk result
+        (out.new.items ≡ out.old.items ++ flat_map (root_line session_roots) rows.now) }
 {
     for (i, row) in rows.iter().enumerate() {
         push_root_line(out, account, row)?;
@@ -145,7 +149,8 @@ fn push_root_lines(out: &mut Vec<u8>, account: &Owner, rows: &[RootRow]) -> Resu
 /// The names of these roots, each after a space.
 #[tactic(auto, using(crate::proofs::Rows::rows_none, crate::proofs::Rows::rows_more, crate::proofs::Rows::rows_all))]
 fn push_root_names(out: &mut Vec<u8>, account: &Owner, rows: &[RootRow]) -> Result<(), AllocError>
-    ensures { OnOk result (out.new.items ≡ out.old.items ++ flat_map (root_after_space session_roots) rows.now) }
+    ensures { OnOk result
+        (out.new.items ≡ out.old.items ++ flat_map (root_after_space session_roots) rows.now) }
 {
     for (i, row) in rows.iter().enumerate() {
         push_root_after_space(out, account, row)?;
@@ -160,7 +165,8 @@ fn push_quota_root_line(
     mailbox: &[u8],
     rows: &[RootRow],
 ) -> Result<(), AllocError>
-    ensures { OnOk result (out.new.items ≡ out.old.items ++ quota_root_line session_roots mailbox.now rows.now) }
+    ensures { OnOk result
+        (out.new.items ≡ out.old.items ++ quota_root_line session_roots mailbox.now rows.now) }
 {
     out.extend_from_slice(b"* QUOTAROOT ")?;
     push_astring(out, mailbox)?;
@@ -197,8 +203,8 @@ fn push_get_quota_root(
     tag: &[u8],
     reply: &Reply,
 ) -> Result<(), AllocError>
-    ensures { OnOk result (out.new.items
-        ≡ out.old.items ++ get_quota_root_text session_roots mailbox.now tag.now (replied reply.now)) }
+    ensures { OnOk result (out.new.items ≡ out.old.items
+        ++ get_quota_root_text session_roots mailbox.now tag.now (replied reply.now)) }
 {
     match reply {
         Reply::Roots(rows) => {
@@ -240,8 +246,8 @@ pub fn push_answer(
     tag: &[u8],
     reply: &Reply,
 ) -> Result<(), AllocError>
-    ensures { OnOk result (out.new.items
-        ≡ out.old.items ++ answer_text session_roots (kind_of kind.entry) tag.now (replied reply.now)) }
+    ensures { OnOk result (out.new.items ≡ out.old.items
+        ++ answer_text session_roots (kind_of kind.entry) tag.now (replied reply.now)) }
 {
     match kind {
         Kind::GetQuota => push_get_quota(out, account, tag, reply),

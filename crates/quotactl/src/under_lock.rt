@@ -13,7 +13,8 @@ use std::alloc::Global;
 use std::sync::Wait;
 use std::test::Fail;
 
-/// Serves a call of the owner in a turn of its own. Each call is one entry, but where there is no memory or no room.
+/// Serves a call of the owner in a turn of its own. Each call is one entry, but where there is no
+/// memory or no room.
 fn serve<R: Wait>(
     rt: &R,
     alloc: Global,
@@ -27,7 +28,8 @@ fn serve<R: Wait>(
     ensures lock { IsOf lock.now pass.new }
     ensures owner { (view pass.new).number ≡ 0 }
     ensures own { OnOk result ((view pass.new).own ≡ (view pass.old).own + 1) }
-    ensures own_fault { IsErrOf result StepError.Store → (view pass.new).own ≡ (view pass.old).own + 1 }
+    ensures own_fault { IsErrOf result StepError.Store
+        → (view pass.new).own ≡ (view pass.old).own + 1 }
 {
     let mut turn = lock.enter(rt, pass);
     let reply = turn.state().serve(alloc, 0, call, b"");

@@ -20,10 +20,12 @@ AreSmallPairs (pair ∷ pairs) = IsSmall pair × AreSmallPairs pairs
 -- What a ledger is written of: totals below 2 ^ 63, and behind them small pairs.
 abbrev pub AreWritten : List Pair → Type 0
 AreWritten [] = ⊥
-AreWritten (pair ∷ pairs) = ((totals : Totals) × (totals.octets < 2 ^ 63) × (totals.count < 2 ^ 63) × (pair ≡ pair_of totals)) × AreSmallPairs pairs
+AreWritten (pair ∷ pairs) = ((totals : Totals) × (totals.octets < 2 ^ 63) × (totals.count < 2 ^ 63)
+    × (pair ≡ pair_of totals)) × AreSmallPairs pairs
 
 -- The ledger is the written text of these limits and of pairs that add up to the usage.
-pub record IsRight (limits : LimitNumbers) (usage : Totals) (ledger : Option (List ℕ)) : Type 0 where
+pub record IsRight (limits : LimitNumbers) (usage : Totals)
+    (ledger : Option (List ℕ)) : Type 0 where
   pub pairs : List Pair
   pub text : ledger ≡ Some (written_ledger limits pairs)
   pub short : length (written_ledger limits pairs) < 5120

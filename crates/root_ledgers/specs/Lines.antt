@@ -30,8 +30,8 @@ change_by true false = Some Goes
 change_by false false = None
 change_by true true = None
 
--- what a message that goes from one mailbox to another does to the usage of a root; a message that is delivered comes from
--- none, and one that is removed goes to none
+-- what a message that goes from one mailbox to another does to the usage of a root; a message that
+-- is delivered comes from none, and one that is removed goes to none
 abbrev pub change_at : List RootSpec → Option (List ℕ) → Option (List ℕ) → ℕ → Option Change
 change_at roots from to root = change_by (governs_in roots root from) (governs_in roots root to)
 
@@ -52,15 +52,19 @@ totals_by Goes octets totals = record { octets = totals.octets - octets; count =
 abbrev pub has_room : ℕ → List ℕ → Bool
 has_room long line = nat_lt (long + length line) 5120
 
--- The ledger of a settled root with a line: where there is room the line stands behind its bytes, else the folded text is its
--- text. Where that failed the root is in doubt: a front of the line stands there, or nothing changed.
-abbrev pub LineLedger : Bool → List ℕ → List ℕ → Option (List ℕ) → Standing → Option (List ℕ) → Type 0
+-- The ledger of a settled root with a line: where there is room the line stands behind its bytes,
+-- else the folded text is its text. Where that failed the root is in doubt: a front of the line
+-- stands there, or nothing changed.
+abbrev pub LineLedger : Bool → List ℕ → List ℕ → Option (List ℕ) → Standing → Option (List ℕ)
+    → Type 0
 LineLedger true line text ledger Settled ledger' = ledger' ≡ Some (bytes_of ledger ++ line)
-LineLedger true line text ledger Doubt ledger' = (front rest : List ℕ) × (line ≡ front ++ rest) × (bytes_of ledger' ≡ bytes_of ledger ++ front)
+LineLedger true line text ledger Doubt ledger' = (front rest : List ℕ) × (line ≡ front ++ rest)
+    × (bytes_of ledger' ≡ bytes_of ledger ++ front)
 LineLedger false line text ledger Settled ledger' = ledger' ≡ Some text
 LineLedger false line text ledger Doubt ledger' = ledger' ≡ ledger
 
--- one, where a settled root has fallen into doubt and there was room for its line, or there was none
+-- one, where a settled root has fallen into doubt and there was room for its line, or there was
+-- none
 abbrev pub fallen_by : Bool → Bool → Standing → ℕ
 fallen_by true true Doubt = 1
 fallen_by false false Doubt = 1
@@ -71,9 +75,11 @@ fallen_by room was Settled = 0
 abbrev pub fallen_at : Bool → Option Change → ℕ → Standing → ℕ → Standing → ℕ
 fallen_at room None octets standing long standing' = 0
 fallen_at room (Some change) octets Doubt long standing' = 0
-fallen_at room (Some change) octets Settled long standing' = fallen_by room (has_room long (line_by change octets)) standing'
+fallen_at room (Some change) octets Settled long standing' =
+    fallen_by room (has_room long (line_by change octets)) standing'
 
--- A count of faults goes up by at least so many, or stands at the end of its type; and where there are none it stays.
+-- A count of faults goes up by at least so many, or stands at the end of its type; and where there
+-- are none it stays.
 pub record HasCauses (failures before now : ℕ) : Type 0 where
   pub later : before ≤ now
   pub rose : min (before + failures) (2 ^ 64 - 1) ≤ now
@@ -81,21 +87,29 @@ pub record HasCauses (failures before now : ℕ) : Type 0 where
 
 -- what is kept of a settled root with a line, by its standing then
 abbrev pub lined_book : List ℕ → List ℕ → Totals → Book → Standing → Book
-lined_book line text totals book Settled = record { totals = totals; standing = Settled; length = if has_room book.length line then book.length + length line else length text }
+lined_book line text totals book Settled = record {
+  totals = totals;
+  standing = Settled;
+  length = if has_room book.length line then book.length + length line else length text;
+}
 lined_book line text totals book Doubt = record book { totals = totals; standing = Doubt }
 
 -- the line, the folded text and the usage of a change
 abbrev pub changed_book : Change → ℕ → LimitNumbers → Book → Standing → Book
 changed_book change octets limits book standing =
-    lined_book (line_by change octets) (folded limits (totals_by change octets book.totals)) (totals_by change octets book.totals) book standing
+    lined_book (line_by change octets) (folded limits (totals_by change octets book.totals))
+    (totals_by change octets book.totals) book standing
 
-abbrev pub ChangedLedger : Change → ℕ → LimitNumbers → Book → Option (List ℕ) → Standing → Option (List ℕ) → Type 0
+abbrev pub ChangedLedger : Change → ℕ → LimitNumbers → Book → Option (List ℕ) → Standing
+    → Option (List ℕ) → Type 0
 ChangedLedger change octets limits book ledger standing ledger' =
-    LineLedger (has_room book.length (line_by change octets)) (line_by change octets) (folded limits (totals_by change octets book.totals)) ledger standing ledger'
+    LineLedger (has_room book.length (line_by change octets)) (line_by change octets)
+    (folded limits (totals_by change octets book.totals)) ledger standing ledger'
 
 -- where there is no room for the line, the folded text is short
 abbrev pub FoldsShort : Change → ℕ → LimitNumbers → Book → Type 0
-FoldsShort change octets limits book = has_room book.length (line_by change octets) ≡ false → length (folded limits (totals_by change octets book.totals)) < 5120
+FoldsShort change octets limits book = has_room book.length (line_by change octets) ≡ false
+    → length (folded limits (totals_by change octets book.totals)) < 5120
 
 -- the length of the ledger of each settled root is known, if the files are told
 abbrev pub AreLong : List Book → Option Told → Type 0
@@ -105,35 +119,46 @@ AreLong books told = (root : ℕ) → (book_at books root).standing ≡ Settled
 -- what is kept of a root: that of a settled root whose usage changes, and no other
 abbrev pub BookBy : Standing → Change → ℕ → LimitNumbers → Book → Book → Type 0
 BookBy Doubt change octets limits book book' = book' ≡ book
-BookBy Settled change octets limits book book' = (book' ≡ changed_book change octets limits book book'.standing) × FoldsShort change octets limits book
+BookBy Settled change octets limits book book' = (book'
+    ≡ changed_book change octets limits book book'.standing) × FoldsShort change octets limits book
 
 abbrev pub BookLined : Option Change → ℕ → LimitNumbers → Book → Book → Type 0
 BookLined None octets limits book book' = book' ≡ book
-BookLined (Some change) octets limits book book' = BookBy book.standing change octets limits book book'
+BookLined (Some change) octets limits book book' =
+    BookBy book.standing change octets limits book book'
 
 -- and its ledger
-abbrev pub LedgerBy : Standing → Change → ℕ → LimitNumbers → Book → Standing → Option (List ℕ) → Option (List ℕ) → Type 0
+abbrev pub LedgerBy : Standing → Change → ℕ → LimitNumbers → Book → Standing → Option (List ℕ)
+    → Option (List ℕ) → Type 0
 LedgerBy Doubt change octets limits book standing' ledger ledger' = ledger' ≡ ledger
-LedgerBy Settled change octets limits book standing' ledger ledger' = ChangedLedger change octets limits book ledger standing' ledger'
+LedgerBy Settled change octets limits book standing' ledger ledger' =
+    ChangedLedger change octets limits book ledger standing' ledger'
 
-abbrev pub LedgerLined : Option Change → ℕ → LimitNumbers → Book → Standing → Option (List ℕ) → Option (List ℕ) → Type 0
+abbrev pub LedgerLined : Option Change → ℕ → LimitNumbers → Book → Standing → Option (List ℕ)
+    → Option (List ℕ) → Type 0
 LedgerLined None octets limits book standing' ledger ledger' = ledger' ≡ ledger
-LedgerLined (Some change) octets limits book standing' ledger ledger' = LedgerBy book.standing change octets limits book standing' ledger ledger'
+LedgerLined (Some change) octets limits book standing' ledger ledger' =
+    LedgerBy book.standing change octets limits book standing' ledger ledger'
 
 -- the books of the roots below a number have their lines, and the others stay
-pub record BooksLined (upto : ℕ) (changes : ℕ → Option Change) (octets : ℕ) (limits : List LimitNumbers) (books books' : List Book) : Type 0 where
+pub record BooksLined (upto : ℕ) (changes : ℕ → Option Change) (octets : ℕ)
+    (limits : List LimitNumbers) (books books' : List Book) : Type 0 where
   pub count : length books' ≡ length books
-  pub done : (root : ℕ) → root < upto → BookLined (changes root) octets (limits_at limits root) (book_at books root) (book_at books' root)
+  pub done : (root : ℕ) → root < upto → BookLined (changes root) octets (limits_at limits root)
+      (book_at books root) (book_at books' root)
   pub left : (root : ℕ) → upto ≤ root → book_at books' root ≡ book_at books root
 
 -- and so have their ledgers
-pub record LedgersLined (upto : ℕ) (changes : ℕ → Option Change) (octets : ℕ) (limits : List LimitNumbers) (books books' : List Book) (files files' : Files) : Type 0 where
+pub record LedgersLined (upto : ℕ) (changes : ℕ → Option Change) (octets : ℕ)
+    (limits : List LimitNumbers) (books books' : List Book) (files files' : Files) : Type 0 where
   pub same : ButLedgers files files'
   pub done : (root : ℕ) → root < upto
-      → LedgerLined (changes root) octets (limits_at limits root) (book_at books root) (book_at books' root).standing (ledger_at files root) (ledger_at files' root)
+      → LedgerLined (changes root) octets (limits_at limits root) (book_at books root)
+      (book_at books' root).standing (ledger_at files root) (ledger_at files' root)
   pub left : (root : ℕ) → upto ≤ root → ledger_at files' root ≡ ledger_at files root
 
 -- how many of the roots below a number fell into doubt, where there was such room for their line
 abbrev pub fell_below : ℕ → Bool → (ℕ → Option Change) → ℕ → List Book → List Book → ℕ
 fell_below upto room changes octets books books' =
-    sum_by (λ root. fallen_at room (changes root) octets (book_at books root).standing (book_at books root).length (book_at books' root).standing) (range_with_len 0 upto)
+    sum_by (λ root. fallen_at room (changes root) octets (book_at books root).standing
+    (book_at books root).length (book_at books' root).standing) (range_with_len 0 upto)

@@ -21,7 +21,8 @@ pub record IsScan (wanted : Bool) (found : Option Totals) : Type 0 where
 
 -- a scan that was made is what the files of the root's mailboxes add up to
 abbrev pub IsFresh : List RootSpec → ℕ → List (List ℕ) → Option Totals → List Row → Type 0
-IsFresh roots root mailboxes found rows = IfSome found (λ totals. totals ≡ scan roots root mailboxes rows)
+IsFresh roots root mailboxes found rows =
+    IfSome found (λ totals. totals ≡ scan roots root mailboxes rows)
 
 -- a scan that has counted nothing yet, of a root that is wanted
 abbrev pub empty_scan : Bool → Option Totals
@@ -31,7 +32,8 @@ empty_scan true = Some (record { octets = 0; count = 0 })
 -- what was counted of a root, with the files of one more mailbox, where the root governs it
 abbrev pub with_files : Bool → Totals → Option Totals → Option Totals
 with_files governs files None = None
-with_files governs files (Some totals) = Some (if governs then cut_totals (totals.octets + files.octets) (totals.count + files.count) else totals)
+with_files governs files (Some totals) = Some (if governs
+    then cut_totals (totals.octets + files.octets) (totals.count + files.count) else totals)
 
 -- the scan of a root, where it was made
 abbrev pub scan_at : List (Option Totals) → ℕ → Option Totals
@@ -48,8 +50,11 @@ pub record AreScans (upto : ℕ) (wanted : ℕ → Bool) (scans : List (Option T
 
 -- the files stay, and each scan that was made is fresh
 abbrev pub ScansList : List RootSpec → List (List ℕ) → List (Option Totals) → Told → Told → Type 0
-ScansList roots mailboxes scans told told' = ((root : ℕ) → IsFresh roots root mailboxes (scan_at scans root) told.files.rows) × (told'.files ≡ told.files)
+ScansList roots mailboxes scans told told' =
+    ((root : ℕ) → IsFresh roots root mailboxes (scan_at scans root) told.files.rows)
+    × (told'.files ≡ told.files)
 
-abbrev pub ScansEach : {A E : Type 0} → List RootSpec → List (List ℕ) → Result (Vec (Option Totals) A) E → Told → Told → Type 0
+abbrev pub ScansEach : {A E : Type 0} → List RootSpec → List (List ℕ)
+    → Result (Vec (Option Totals) A) E → Told → Told → Type 0
 ScansEach roots mailboxes (Ok scans) told told' = ScansList roots mailboxes scans.items told told'
 ScansEach roots mailboxes (Err e) told told' = told'.files ≡ told.files

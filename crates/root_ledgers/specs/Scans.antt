@@ -16,10 +16,13 @@ sizes_of files = sum_by size_of_file files
 
 -- the sizes, and the number, of the files of the mailboxes that the root of this number governs
 abbrev pub scanned_octets : List RootSpec → ℕ → List (List ℕ) → List Row → ℕ
-scanned_octets roots root mailboxes rows = sum_by (λ mailbox. if governs_at roots root mailbox then sizes_of (listed mailbox rows) else 0) mailboxes
+scanned_octets roots root mailboxes rows = sum_by (λ mailbox.
+    if governs_at roots root mailbox then sizes_of (listed mailbox rows) else 0) mailboxes
 
 abbrev pub scanned_count : List RootSpec → ℕ → List (List ℕ) → List Row → ℕ
-scanned_count roots root mailboxes rows = sum_by (λ mailbox. if governs_at roots root mailbox then length (listed mailbox rows) else 0) mailboxes
+scanned_count roots root mailboxes rows = sum_by
+    (λ mailbox. if governs_at roots root mailbox then length (listed mailbox rows) else 0) mailboxes
 
 abbrev pub scan : List RootSpec → ℕ → List (List ℕ) → List Row → Totals
-scan roots root mailboxes rows = cut_totals (scanned_octets roots root mailboxes rows) (scanned_count roots root mailboxes rows)
+scan roots root mailboxes rows =
+    cut_totals (scanned_octets roots root mailboxes rows) (scanned_count roots root mailboxes rows)

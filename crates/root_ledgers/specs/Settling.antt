@@ -57,7 +57,8 @@ with_folded k root limits totals = record {
 }
 
 -- what is kept of a settled root: its usage, and the length of its ledger, which is right
-pub record IsKept (limits : LimitNumbers) (usage : Totals) (ledger : Option (List ℕ)) (bytes : List ℕ) (book : Book) : Type 0 where
+pub record IsKept (limits : LimitNumbers) (usage : Totals) (ledger : Option (List ℕ))
+    (bytes : List ℕ) (book : Book) : Type 0 where
   pub totals : book.totals ≡ usage
   pub right : IsRight limits usage ledger
   pub long : book.length ≡ length bytes
@@ -68,18 +69,21 @@ pub record Stays (book book' : Book) (ledger ledger' : Option (List ℕ)) : Type
   pub ledger_is : ledger' ≡ ledger
 
 -- a root in doubt has these totals, and the folded text of them as its ledger
-pub record Settles (limits : LimitNumbers) (totals : Totals) (book book' : Book) (ledger' : Option (List ℕ)) : Type 0 where
+pub record Settles (limits : LimitNumbers) (totals : Totals) (book book' : Book)
+    (ledger' : Option (List ℕ)) : Type 0 where
   pub doubt : book.standing ≡ Doubt
   pub book_is : book' ≡ folded_book limits totals
   pub ledger_is : ledger' ≡ Some (folded limits totals)
   pub short : length (folded limits totals) < 5120
 
-abbrev pub SettlesOrStays : Bool → LimitNumbers → Totals → Book → Book → Option (List ℕ) → Option (List ℕ) → Type 0
+abbrev pub SettlesOrStays : Bool → LimitNumbers → Totals → Book → Book → Option (List ℕ)
+    → Option (List ℕ) → Type 0
 SettlesOrStays may limits totals book book' ledger ledger' =
     Stays book book' ledger ledger' ⊎ ((may ≡ true) × Settles limits totals book book' ledger')
 
 -- some of the roots that may be settled are, each by a fresh scan, and nothing else changes
-pub record Settling (may : ℕ → Bool) (roots : List RootSpec) (mailboxes : List (List ℕ)) (k k' : Kept) (files files' : Files) : Type 0 where
+pub record Settling (may : ℕ → Bool) (roots : List RootSpec) (mailboxes : List (List ℕ))
+    (k k' : Kept) (files files' : Files) : Type 0 where
   pub same : ButLedgers files files'
   pub each : (root : ℕ) → SettlesOrStays (may root) (limits_at k.limits root)
       (scan roots root mailboxes files.rows)
@@ -93,7 +97,8 @@ MarksOne may standing standing' =
 -- the same of the standings, also if nothing is told
 pub record Marks (may : ℕ → Bool) (books books' : List Book) : Type 0 where
   pub count : length books' ≡ length books
-  pub each : (root : ℕ) → MarksOne (may root) (book_at books root).standing (book_at books' root).standing
+  pub each : (root : ℕ)
+      → MarksOne (may root) (book_at books root).standing (book_at books' root).standing
 
 -- one of the roots that may be settled is in doubt
 abbrev pub StaysInDoubt : (ℕ → Bool) → List Book → Type 0

@@ -6,11 +6,13 @@ use quota_units::Totals;
 pub enum Standing {
     /// The ledger is the written text of the root's limits and of pairs that add up to its usage.
     Settled,
-    /// Nothing is known of the ledger: the account was just opened, or a write of the ledger failed.
+    /// Nothing is known of the ledger: the account was just opened, or a write of the ledger
+    /// failed.
     Doubt,
 }
 
-/// What is kept of a quota root: its usage, and the length of its ledger in bytes, if it is settled.
+/// What is kept of a quota root: its usage, and the length of its ledger in bytes, if it is
+/// settled.
 #[derive(Clone, Copy, Debug)]
 pub struct Book {
     /// Octets, and messages.

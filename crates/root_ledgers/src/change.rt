@@ -8,7 +8,8 @@ use maildirsize::{Text, print_line};
 use quota_roots::Roots;
 use quota_units::{Totals, cut_sum};
 
-/// What a message that comes to or goes from the mailboxes of a quota root does to the root's usage.
+/// What a message that comes to or goes from the mailboxes of a quota root does to the root's
+/// usage.
 #[derive(Clone, Copy, Debug, PartialEq, Eq)]
 pub enum Change {
     /// Its octets and one message more.
@@ -28,8 +29,8 @@ fn governs_in(roots: &Roots, root: u32, mailbox: Option<&[u8]>) -> bool
     }
 }
 
-/// What a message that goes from one mailbox to another does to the usage of the root; one that is delivered comes from none,
-/// and one that is removed goes to none.
+/// What a message that goes from one mailbox to another does to the usage of the root; one that is
+/// delivered comes from none, and one that is removed goes to none.
 pub(crate) fn change_at(
     roots: &Roots,
     root: u32,
@@ -37,7 +38,8 @@ pub(crate) fn change_at(
     to: Option<&[u8]>,
 ) -> Option<Change>
     requires { root < length roots.now }
-    ensures { result ≡ change_at roots.now (option_map (λ m. m.now) from.entry) (option_map (λ m. m.now) to.entry) root }
+    ensures { result ≡ change_at roots.now (option_map (λ m. m.now) from.entry)
+        (option_map (λ m. m.now) to.entry) root }
 {
     match (governs_in(roots, root, from), governs_in(roots, root, to)) {
         (false, true) => Some(Change::Comes),

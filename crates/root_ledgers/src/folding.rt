@@ -25,11 +25,13 @@ pub(crate) fn install_folded<K: Keeper>(
 ) -> Result<Book, Failed>
     requires root { root < 4 }
     requires totals { AreSmall totals }
-    ensures files { Changes (Installs root (folded limits.now totals) result) (K.told keeper.old) (K.told keeper.new) }
+    ensures files { Changes (Installs root (folded limits.now totals) result) (K.told keeper.old)
+        (K.told keeper.new) }
     ensures book { IfOk result (λ book. book ≡ folded_book limits.now totals) }
     ensures short { length (folded limits.now totals) < 5120 }
     ensures cause { HasCause (IsErr result) (K.faults keeper.old) (K.faults keeper.new) }
-    ensures due { Due (IsErr result) (K.faults keeper.old) (K.append_faults keeper.old) (K.faults keeper.new) (K.append_faults keeper.new) (K.told keeper.old) (K.told keeper.new) }
+    ensures due { Due (IsErr result) (K.faults keeper.old) (K.append_faults keeper.old)
+        (K.faults keeper.new) (K.append_faults keeper.new) (K.told keeper.old) (K.told keeper.new) }
     ensures appends { K.append_faults keeper.new ≡ K.append_faults keeper.old }
 {
     let mut text = Text::new();

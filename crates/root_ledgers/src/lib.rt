@@ -1,4 +1,5 @@
-//! The ledgers of an account's quota roots, over a keeper: a fresh scan settles a root, and a change of its usage writes a line.
+//! The ledgers of an account's quota roots, over a keeper: a fresh scan settles a root, and a
+//! change of its usage writes a line.
 #![tactic(auto)]
 
 mod book;

@@ -21,20 +21,25 @@ use quota_units::{Limits, Totals};
 /// The bytes that a ledger stays below.
 const LEDGER_ROOM: usize = 5120;
 
-/// Writes a line behind the ledger of a settled root, which has room for it. What is kept of the root then: where the write
-/// failed, the root is in doubt.
+/// Writes a line behind the ledger of a settled root, which has room for it. What is kept of the
+/// root then: where the write failed, the root is in doubt.
 fn append<K: Keeper>(keeper: &mut K, book: Book, root: u32, line: &[u8], totals: Totals) -> Book
     requires root { root < 4 }
     requires settled { book.standing ≡ Settled }
     requires small { AreSmall totals }
     requires room { has_room book.length line.now ≡ true }
-    requires long { IfSome (K.told keeper.old) (λ t. length (ledger_bytes t.files root) ≡ book.length) }
+    requires long { IfSome (K.told keeper.old)
+        (λ t. length (ledger_bytes t.files root) ≡ book.length) }
     ensures book { (text : List ℕ) → result ≡ lined_book line.now text totals book result.standing }
     ensures small { AreSmall result.totals }
-    ensures files { (text : List ℕ) → Changes (OnFiles (λ files files'. OneLedger root files files' × LineLedger true line.now text (ledger_at files root) result.standing (ledger_at files' root))) (K.told keeper.old) (K.told keeper.new) }
+    ensures files { (text : List ℕ) → Changes (OnFiles (λ files files'. OneLedger root files files'
+        × LineLedger true line.now text (ledger_at files root) result.standing
+        (ledger_at files' root))) (K.told keeper.old) (K.told keeper.new) }
     ensures faults { K.faults keeper.new ≡ K.faults keeper.old }
-    ensures due { Due ⊥ (K.faults keeper.old) (K.append_faults keeper.old) (K.faults keeper.new) (K.append_faults keeper.new) (K.told keeper.old) (K.told keeper.new) }
-    ensures appends { HasCauses (fallen_by true true result.standing) (K.append_faults keeper.old) (K.append_faults keeper.new) }
+    ensures due { Due ⊥ (K.faults keeper.old) (K.append_faults keeper.old) (K.faults keeper.new)
+        (K.append_faults keeper.new) (K.told keeper.old) (K.told keeper.new) }
+    ensures appends { HasCauses (fallen_by true true result.standing) (K.append_faults keeper.old)
+        (K.append_faults keeper.new) }
 {
     match keeper.append_ledger(root, line) {
         Ok(()) => Book {
@@ -50,18 +55,23 @@ fn append<K: Keeper>(keeper: &mut K, book: Book, root: u32, line: &[u8], totals:
     }
 }
 
-/// Writes a folded text in place of the ledger of a settled root, which has no room for a line. What is kept of the root then:
-/// if the write failed, the root is in doubt.
+/// Writes a folded text in place of the ledger of a settled root, which has no room for a line.
+/// What is kept of the root then: if the write failed, the root is in doubt.
 fn fold<K: Keeper>(keeper: &mut K, limits: &Limits, book: Book, root: u32, totals: Totals) -> Book
     requires root { root < 4 }
     requires settled { book.standing ≡ Settled }
     requires small { AreSmall totals }
     ensures small { AreSmall result.totals }
     ensures short { length (folded limits.now totals) < 5120 }
-    ensures book { (line : List ℕ) → has_room book.length line ≡ false → result ≡ lined_book line (folded limits.now totals) totals book result.standing }
-    ensures files { (line : List ℕ) → Changes (OnFiles (λ files files'. OneLedger root files files' × LineLedger false line (folded limits.now totals) (ledger_at files root) result.standing (ledger_at files' root))) (K.told keeper.old) (K.told keeper.new) }
-    ensures faults { HasCauses (fallen_by false false result.standing) (K.faults keeper.old) (K.faults keeper.new) }
-    ensures due { Due ⊥ (K.faults keeper.old) (K.append_faults keeper.old) (K.faults keeper.new) (K.append_faults keeper.new) (K.told keeper.old) (K.told keeper.new) }
+    ensures book { (line : List ℕ) → has_room book.length line ≡ false
+        → result ≡ lined_book line (folded limits.now totals) totals book result.standing }
+    ensures files { (line : List ℕ) → Changes (OnFiles (λ files files'. OneLedger root files files'
+        × LineLedger false line (folded limits.now totals) (ledger_at files root) result.standing
+        (ledger_at files' root))) (K.told keeper.old) (K.told keeper.new) }
+    ensures faults { HasCauses (fallen_by false false result.standing) (K.faults keeper.old)
+        (K.faults keeper.new) }
+    ensures due { Due ⊥ (K.faults keeper.old) (K.append_faults keeper.old) (K.faults keeper.new)
+        (K.append_faults keeper.new) (K.told keeper.old) (K.told keeper.new) }
     ensures appends { K.append_faults keeper.new ≡ K.append_faults keeper.old }
 {
     match install_folded(keeper, root, limits, totals) {
@@ -74,8 +84,9 @@ fn fold<K: Keeper>(keeper: &mut K, limits: &Limits, book: Book, root: u32, total
     }
 }
 
-/// Writes the line of a change behind the ledger of a settled root, or the folded text in its place where there is no room for
-/// the line. What is kept of the root then: where the write failed, the root is in doubt.
+/// Writes the line of a change behind the ledger of a settled root, or the folded text in its place
+/// where there is no room for the line. What is kept of the root then: where the write failed, the
+/// root is in doubt.
 fn post<K: Keeper>(
     keeper: &mut K,
     limits: &Limits,
@@ -88,14 +99,20 @@ fn post<K: Keeper>(
     requires settled { book.standing ≡ Settled }
     requires small { AreSmall book.totals }
     requires octets { octets < 1000000000000000000 }
-    requires long { IfSome (K.told keeper.old) (λ t. length (ledger_bytes t.files root) ≡ book.length) }
+    requires long { IfSome (K.told keeper.old)
+        (λ t. length (ledger_bytes t.files root) ≡ book.length) }
     ensures book { result ≡ changed_book change octets limits.now book result.standing }
     ensures short { FoldsShort change octets limits.now book }
     ensures small { AreSmall result.totals }
-    ensures files { Changes (OnFiles (λ files files'. OneLedger root files files' × ChangedLedger change octets limits.now book (ledger_at files root) result.standing (ledger_at files' root))) (K.told keeper.old) (K.told keeper.new) }
-    ensures faults { HasCauses (fallen_by false (has_room book.length (line_by change octets)) result.standing) (K.faults keeper.old) (K.faults keeper.new) }
-    ensures due { Due ⊥ (K.faults keeper.old) (K.append_faults keeper.old) (K.faults keeper.new) (K.append_faults keeper.new) (K.told keeper.old) (K.told keeper.new) }
-    ensures appends { HasCauses (fallen_by true (has_room book.length (line_by change octets)) result.standing) (K.append_faults keeper.old) (K.append_faults keeper.new) }
+    ensures files { Changes (OnFiles (λ files files'. OneLedger root files files'
+        × ChangedLedger change octets limits.now book (ledger_at files root) result.standing
+        (ledger_at files' root))) (K.told keeper.old) (K.told keeper.new) }
+    ensures faults { HasCauses (fallen_by false (has_room book.length (line_by change octets))
+        result.standing) (K.faults keeper.old) (K.faults keeper.new) }
+    ensures due { Due ⊥ (K.faults keeper.old) (K.append_faults keeper.old) (K.faults keeper.new)
+        (K.append_faults keeper.new) (K.told keeper.old) (K.told keeper.new) }
+    ensures appends { HasCauses (fallen_by true (has_room book.length (line_by change octets))
+        result.standing) (K.append_faults keeper.old) (K.append_faults keeper.new) }
 {
     let mut line = Text::new();
     print_change(change, octets, &mut line);
@@ -124,15 +141,30 @@ fn post_at<K: Keeper>(
     requires books { length books.old.items ≡ length roots.now }
     requires small { All (λ book. AreSmall book.totals) books.old.items }
     requires octets { octets < 1000000000000000000 }
-    requires long { (book_at books.old.items root).standing ≡ Settled → IfSome (K.told keeper.old) (λ t. length (ledger_bytes t.files root) ≡ (book_at books.old.items root).length) }
+    requires long { (book_at books.old.items root).standing ≡ Settled → IfSome (K.told keeper.old)
+        (λ t. length (ledger_bytes t.files root) ≡ (book_at books.old.items root).length) }
     ensures count { length books.new.items ≡ length books.old.items }
     ensures small { All (λ book. AreSmall book.totals) books.new.items }
-    ensures book { BookLined (change_at roots.now (option_map (λ m. m.now) from.entry) (option_map (λ m. m.now) to.entry) root) octets (limits_at limits.now root) (book_at books.old.items root) (book_at books.new.items root) }
-    ensures others { (other : ℕ) → other ≢ root → book_at books.new.items other ≡ book_at books.old.items other }
-    ensures files { Changes (OnFiles (λ files files'. OneLedger root files files' × LedgerLined (change_at roots.now (option_map (λ m. m.now) from.entry) (option_map (λ m. m.now) to.entry) root) octets (limits_at limits.now root) (book_at books.old.items root) (book_at books.new.items root).standing (ledger_at files root) (ledger_at files' root))) (K.told keeper.old) (K.told keeper.new) }
-    ensures faults { HasCauses (fallen_at false (change_at roots.now (option_map (λ m. m.now) from.entry) (option_map (λ m. m.now) to.entry) root) octets (book_at books.old.items root).standing (book_at books.old.items root).length (book_at books.new.items root).standing) (K.faults keeper.old) (K.faults keeper.new) }
-    ensures due { Due ⊥ (K.faults keeper.old) (K.append_faults keeper.old) (K.faults keeper.new) (K.append_faults keeper.new) (K.told keeper.old) (K.told keeper.new) }
-    ensures appends { HasCauses (fallen_at true (change_at roots.now (option_map (λ m. m.now) from.entry) (option_map (λ m. m.now) to.entry) root) octets (book_at books.old.items root).standing (book_at books.old.items root).length (book_at books.new.items root).standing) (K.append_faults keeper.old) (K.append_faults keeper.new) }
+    ensures book { BookLined (change_at roots.now (option_map (λ m. m.now) from.entry)
+        (option_map (λ m. m.now) to.entry) root) octets (limits_at limits.now root)
+        (book_at books.old.items root) (book_at books.new.items root) }
+    ensures others { (other : ℕ) → other ≢ root
+        → book_at books.new.items other ≡ book_at books.old.items other }
+    ensures files { Changes (OnFiles (λ files files'. OneLedger root files files'
+        × LedgerLined (change_at roots.now (option_map (λ m. m.now) from.entry) (option_map (λ m.
+        m.now) to.entry) root) octets (limits_at limits.now root) (book_at books.old.items root)
+        (book_at books.new.items root).standing (ledger_at files root) (ledger_at files' root)))
+        (K.told keeper.old) (K.told keeper.new) }
+    ensures faults { HasCauses (fallen_at false (change_at roots.now
+        (option_map (λ m. m.now) from.entry) (option_map (λ m. m.now) to.entry) root) octets
+        (book_at books.old.items root).standing (book_at books.old.items root).length
+        (book_at books.new.items root).standing) (K.faults keeper.old) (K.faults keeper.new) }
+    ensures due { Due ⊥ (K.faults keeper.old) (K.append_faults keeper.old) (K.faults keeper.new)
+        (K.append_faults keeper.new) (K.told keeper.old) (K.told keeper.new) }
+    ensures appends { HasCauses (fallen_at true (change_at roots.now
+        (option_map (λ m. m.now) from.entry) (option_map (λ m. m.now) to.entry) root) octets
+        (book_at books.old.items root).standing (book_at books.old.items root).length (book_at
+        books.new.items root).standing) (K.append_faults keeper.old) (K.append_faults keeper.new) }
 {
     let book = books[root as usize];
     let Some(change) = change_at(roots, root, from, to) else {
@@ -144,8 +176,9 @@ fn post_at<K: Keeper>(
     }
 }
 
-/// Writes the lines of a message of so many octets that goes from one mailbox to another: one for each settled root whose usage
-/// changes. A root whose line, or the folded text in its place, can't be written is in doubt then.
+/// Writes the lines of a message of so many octets that goes from one mailbox to another: one for
+/// each settled root whose usage changes. A root whose line, or the folded text in its place, can't
+/// be written is in doubt then.
 pub(crate) fn write_lines<K: Keeper>(
     keeper: &mut K,
     roots: &Roots,
@@ -161,12 +194,21 @@ pub(crate) fn write_lines<K: Keeper>(
     requires small { All (λ book. AreSmall book.totals) books.old.items }
     requires octets { octets < 1000000000000000000 }
     requires long { AreLong books.old.items (K.told keeper.old) }
-    ensures books { BooksLined (length roots.now) (change_at roots.now (option_map (λ m. m.now) from.entry) (option_map (λ m. m.now) to.entry)) octets limits.now books.old.items books.new.items }
+    ensures books { BooksLined (length roots.now)
+        (change_at roots.now (option_map (λ m. m.now) from.entry)
+        (option_map (λ m. m.now) to.entry)) octets limits.now books.old.items books.new.items }
     ensures small { All (λ book. AreSmall book.totals) books.new.items }
-    ensures files { Changes (OnFiles (LedgersLined (length roots.now) (change_at roots.now (option_map (λ m. m.now) from.entry) (option_map (λ m. m.now) to.entry)) octets limits.now books.old.items books.new.items)) (K.told keeper.old) (K.told keeper.new) }
-    ensures faults { HasCauses (fell_below (length roots.now) false (change_at roots.now (option_map (λ m. m.now) from.entry) (option_map (λ m. m.now) to.entry)) octets books.old.items books.new.items) (K.faults keeper.old) (K.faults keeper.new) }
-    ensures due { Due ⊥ (K.faults keeper.old) (K.append_faults keeper.old) (K.faults keeper.new) (K.append_faults keeper.new) (K.told keeper.old) (K.told keeper.new) }
-    ensures appends { HasCauses (fell_below (length roots.now) true (change_at roots.now (option_map (λ m. m.now) from.entry) (option_map (λ m. m.now) to.entry)) octets books.old.items books.new.items) (K.append_faults keeper.old) (K.append_faults keeper.new) }
+    ensures files { Changes (OnFiles (LedgersLined (length roots.now) (change_at roots.now
+        (option_map (λ m. m.now) from.entry) (option_map (λ m. m.now) to.entry)) octets limits.now
+        books.old.items books.new.items)) (K.told keeper.old) (K.told keeper.new) }
+    ensures faults { HasCauses (fell_below (length roots.now) false (change_at roots.now
+        (option_map (λ m. m.now) from.entry) (option_map (λ m. m.now) to.entry)) octets
+        books.old.items books.new.items) (K.faults keeper.old) (K.faults keeper.new) }
+    ensures due { Due ⊥ (K.faults keeper.old) (K.append_faults keeper.old) (K.faults keeper.new)
+        (K.append_faults keeper.new) (K.told keeper.old) (K.told keeper.new) }
+    ensures appends { HasCauses (fell_below (length roots.now) true (change_at roots.now
+        (option_map (λ m. m.now) from.entry) (option_map (λ m. m.now) to.entry)) octets
+        books.old.items books.new.items) (K.append_faults keeper.old) (K.append_faults keeper.new) }
 {
     for root in 0..roots.count() {
         post_at(keeper, roots, limits, books, root, from, to, octets);

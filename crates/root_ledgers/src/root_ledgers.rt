@@ -50,7 +50,8 @@ impl RootLedgers {
     pub fn in_doubt(alloc: Global, limits: Vec<Limits>) -> Result<RootLedgers, AllocError>
         requires { length limits.items ≤ 4 }
         ensures limits { IfOk result (λ kept. kept.limits ≡ limits.items) }
-        ensures doubt { IfOk result (λ kept. (root : ℕ) → (book_at kept.books root).standing ≡ Doubt) }
+        ensures doubt { IfOk result (λ kept. (root : ℕ)
+            → (book_at kept.books root).standing ≡ Doubt) }
     {
         let books = books_in_doubt(alloc, limits.len())?;
         Ok(RootLedgers { limits, books })
@@ -95,13 +96,20 @@ impl RootLedgers {
     ) -> Result<(), KeepError>
         requires { length self.old.limits ≡ length roots.now }
         ensures limits { self.new.limits ≡ self.old.limits }
-        ensures files { Changes (OnFiles (Settling (has_root set) roots.now mailboxes.now self.old self.new)) (K.told keeper.old) (K.told keeper.new) }
+        ensures files { Changes (OnFiles (Settling (has_root set) roots.now mailboxes.now self.old
+            self.new)) (K.told keeper.old) (K.told keeper.new) }
         ensures marks { Marks (has_root set) self.old.books self.new.books }
-        ensures settled { OnOk result ((root : ℕ) → root < length roots.now → has_root set root ≡ true → (book_at self.new.books root).standing ≡ Settled) }
-        ensures failed { IsErrOf result KeepError.Failed → StaysInDoubt (has_root set) self.new.books }
-        ensures spared { IsErrOf result KeepError.NoMemory → Spared self.old self.new (K.told keeper.old) (K.told keeper.new) }
-        ensures cause { HasCause (IsErrOf result KeepError.Failed) (K.faults keeper.old) (K.faults keeper.new) }
-        ensures due { Due (IsErrOf result KeepError.Failed) (K.faults keeper.old) (K.append_faults keeper.old) (K.faults keeper.new) (K.append_faults keeper.new) (K.told keeper.old) (K.told keeper.new) }
+        ensures settled { OnOk result ((root : ℕ) → root < length roots.now
+            → has_root set root ≡ true → (book_at self.new.books root).standing ≡ Settled) }
+        ensures failed { IsErrOf result KeepError.Failed
+            → StaysInDoubt (has_root set) self.new.books }
+        ensures spared { IsErrOf result KeepError.NoMemory
+            → Spared self.old self.new (K.told keeper.old) (K.told keeper.new) }
+        ensures cause { HasCause (IsErrOf result KeepError.Failed) (K.faults keeper.old)
+            (K.faults keeper.new) }
+        ensures due { Due (IsErrOf result KeepError.Failed) (K.faults keeper.old)
+            (K.append_faults keeper.old) (K.faults keeper.new) (K.append_faults keeper.new)
+            (K.told keeper.old) (K.told keeper.new) }
         ensures appends { K.append_faults keeper.new ≡ K.append_faults keeper.old }
     {
         settle(
@@ -115,8 +123,8 @@ impl RootLedgers {
         )
     }
 
-    /// Gives a root these limits and totals: the folded text of them is installed as its ledger, and
-    /// it is settled then.
+    /// Gives a root these limits and totals: the folded text of them is installed as its ledger,
+    /// and it is settled then.
     ///
     /// # Errors
     ///
@@ -130,12 +138,15 @@ impl RootLedgers {
     ) -> Result<(), Failed>
         requires root { root < length self.old.limits }
         requires totals { AreSmall totals }
-        ensures files { Changes (Installs root (folded limits totals) result) (K.told keeper.old) (K.told keeper.new) }
+        ensures files { Changes (Installs root (folded limits totals) result) (K.told keeper.old)
+            (K.told keeper.new) }
         ensures ok { OnOk result (self.new ≡ with_folded self.old root limits totals) }
         ensures err { OnErr result (self.new ≡ self.old) }
         ensures short { length (folded limits totals) < 5120 }
         ensures cause { HasCause (IsErr result) (K.faults keeper.old) (K.faults keeper.new) }
-        ensures due { Due (IsErr result) (K.faults keeper.old) (K.append_faults keeper.old) (K.faults keeper.new) (K.append_faults keeper.new) (K.told keeper.old) (K.told keeper.new) }
+        ensures due { Due (IsErr result) (K.faults keeper.old) (K.append_faults keeper.old)
+            (K.faults keeper.new) (K.append_faults keeper.new) (K.told keeper.old)
+            (K.told keeper.new) }
         ensures appends { K.append_faults keeper.new ≡ K.append_faults keeper.old }
     {
         // There are at most four roots.
@@ -148,8 +159,9 @@ impl RootLedgers {
 
     /// Writes the lines of a message of `octets` octets that goes from one mailbox to another: one
     /// for each settled root whose usage changes, or the folded text in place of its ledger if that
-    /// has no room for the line. A root whose line or folded text can't be written is in doubt then.
-    /// A message that is delivered comes from no mailbox, and one that is removed goes to none.
+    /// has no room for the line. A root whose line or folded text can't be written is in doubt
+    /// then. A message that is delivered comes from no mailbox, and one that is removed goes to
+    /// none.
     pub fn write_lines<K: Keeper>(
         &mut self,
         keeper: &mut K,
@@ -162,11 +174,22 @@ impl RootLedgers {
         requires octets { octets < 1000000000000000000 }
         requires long { AreLong self.old.books (K.told keeper.old) }
         ensures limits { self.new.limits ≡ self.old.limits }
-        ensures books { BooksLined (length roots.now) (change_at roots.now (option_map (λ m. m.now) from.entry) (option_map (λ m. m.now) to.entry)) octets self.old.limits self.old.books self.new.books }
-        ensures files { Changes (OnFiles (LedgersLined (length roots.now) (change_at roots.now (option_map (λ m. m.now) from.entry) (option_map (λ m. m.now) to.entry)) octets self.old.limits self.old.books self.new.books)) (K.told keeper.old) (K.told keeper.new) }
-        ensures faults { HasCauses (fell_below (length roots.now) false (change_at roots.now (option_map (λ m. m.now) from.entry) (option_map (λ m. m.now) to.entry)) octets self.old.books self.new.books) (K.faults keeper.old) (K.faults keeper.new) }
-        ensures appends { HasCauses (fell_below (length roots.now) true (change_at roots.now (option_map (λ m. m.now) from.entry) (option_map (λ m. m.now) to.entry)) octets self.old.books self.new.books) (K.append_faults keeper.old) (K.append_faults keeper.new) }
-        ensures due { Due ⊥ (K.faults keeper.old) (K.append_faults keeper.old) (K.faults keeper.new) (K.append_faults keeper.new) (K.told keeper.old) (K.told keeper.new) }
+        ensures books { BooksLined (length roots.now) (change_at roots.now
+            (option_map (λ m. m.now) from.entry) (option_map (λ m. m.now) to.entry)) octets
+            self.old.limits self.old.books self.new.books }
+        ensures files { Changes (OnFiles (LedgersLined (length roots.now) (change_at roots.now
+            (option_map (λ m. m.now) from.entry) (option_map (λ m. m.now) to.entry))
+            octets self.old.limits self.old.books self.new.books)) (K.told keeper.old)
+            (K.told keeper.new) }
+        ensures faults { HasCauses (fell_below (length roots.now) false (change_at roots.now
+            (option_map (λ m. m.now) from.entry) (option_map (λ m. m.now) to.entry)) octets
+            self.old.books self.new.books) (K.faults keeper.old) (K.faults keeper.new) }
+        ensures appends { HasCauses (fell_below (length roots.now) true
+            (change_at roots.now (option_map (λ m. m.now) from.entry)
+            (option_map (λ m. m.now) to.entry)) octets self.old.books self.new.books)
+            (K.append_faults keeper.old) (K.append_faults keeper.new) }
+        ensures due { Due ⊥ (K.faults keeper.old) (K.append_faults keeper.old) (K.faults keeper.new)
+            (K.append_faults keeper.new) (K.told keeper.old) (K.told keeper.new) }
     {
         write_lines(
             keeper,
@@ -187,7 +210,8 @@ impl RootLedgers {
 /// There was no memory.
 fn books_in_doubt(alloc: Global, count: usize) -> Result<Vec<Book>, AllocError>
     ensures count { IfOk result (λ books. length books.items ≡ count) }
-    ensures doubt { IfOk result (λ books. (root : ℕ) → (book_at books.items root).standing ≡ Doubt) }
+    ensures doubt { IfOk result (λ books. (root : ℕ)
+        → (book_at books.items root).standing ≡ Doubt) }
     ensures small { IfOk result (λ books. All (λ book. AreSmall book.totals) books.items) }
 {
     let mut books = Vec::new(alloc);

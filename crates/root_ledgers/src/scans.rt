@@ -67,8 +67,10 @@ fn empty_scans(
     set: RootSet,
 ) -> Result<Vec<Option<Totals>>, AllocError>
     requires { length books.now ≡ length roots.now }
-    ensures scans { IfOk result (λ scans. AreScans (length roots.now) (λ root. is_wanted (has_root set root) (book_at books.now root).standing) scans.items) }
-    ensures empty { IfOk result (λ scans. (root : ℕ) → root < length roots.now → scan_at scans.items root ≡ empty_scan (is_wanted (has_root set root) (book_at books.now root).standing)) }
+    ensures scans { IfOk result (λ scans. AreScans (length roots.now)
+        (λ root. is_wanted (has_root set root) (book_at books.now root).standing) scans.items) }
+    ensures empty { IfOk result (λ scans. (root : ℕ) → root < length roots.now → scan_at scans.items
+        root ≡ empty_scan (is_wanted (has_root set root) (book_at books.now root).standing)) }
 {
     let mut scans = Vec::new(alloc);
     for root in 0..roots.count() {
@@ -82,7 +84,8 @@ fn empty_scans(
 fn is_counted(scans: &[Option<Totals>], roots: &Roots, mailbox: &[u8]) -> bool
     requires { length scans.now ≡ length roots.now }
     ensures some { result ≡ true → SomeScanned scans.now }
-    ensures none { result ≡ false → (root : ℕ) → is_some (scan_at scans.now root) ≡ true → governs_at roots.now root mailbox.now ≡ false }
+    ensures none { result ≡ false → (root : ℕ) → is_some (scan_at scans.now root) ≡ true
+        → governs_at roots.now root mailbox.now ≡ false }
 {
     for root in 0..roots.count() {
         if scans[root as usize].is_some() && roots.governs(root, mailbox) {
@@ -112,9 +115,11 @@ fn count_files(scans: &mut Vec<Option<Totals>>, roots: &Roots, mailbox: &[u8], f
     requires scans { (root : ℕ) → IfSome (scan_at scans.old.items root) AreSmall }
     requires files { AreSmall files }
     ensures count { length scans.new.items ≡ length scans.old.items }
-    ensures counted { (root : ℕ) → root < length roots.now → scan_at scans.new.items root ≡ with_files (governs_at roots.now root mailbox.now) files (scan_at scans.old.items root) }
+    ensures counted { (root : ℕ) → root < length roots.now → scan_at scans.new.items root
+        ≡ with_files (governs_at roots.now root mailbox.now) files (scan_at scans.old.items root) }
     ensures small { (root : ℕ) → IfSome (scan_at scans.new.items root) AreSmall }
-    ensures same { (root : ℕ) → is_some (scan_at scans.new.items root) ≡ is_some (scan_at scans.old.items root) }
+    ensures same { (root : ℕ)
+        → is_some (scan_at scans.new.items root) ≡ is_some (scan_at scans.old.items root) }
 {
     for root in 0..roots.count() {
         let governs = roots.governs(root, mailbox);
@@ -137,11 +142,16 @@ pub(crate) fn scan_each<K: Keeper>(
     set: RootSet,
 ) -> Result<Vec<Option<Totals>>, KeepError>
     requires { length books.now ≡ length roots.now }
-    ensures files { Changes (ScansEach roots.now mailboxes.now result) (K.told keeper.old) (K.told keeper.new) }
-    ensures scans { IfOk result (λ scans. AreScans (length roots.now) (λ root. is_wanted (has_root set root) (book_at books.now root).standing) scans.items) }
+    ensures files { Changes (ScansEach roots.now mailboxes.now result) (K.told keeper.old)
+        (K.told keeper.new) }
+    ensures scans { IfOk result (λ scans. AreScans (length roots.now)
+        (λ root. is_wanted (has_root set root) (book_at books.now root).standing) scans.items) }
     ensures wanted { IsErrOf result KeepError.Failed → StaysInDoubt (has_root set) books.now }
-    ensures cause { HasCause (IsErrOf result KeepError.Failed) (K.faults keeper.old) (K.faults keeper.new) }
-    ensures due { Due (IsErrOf result KeepError.Failed) (K.faults keeper.old) (K.append_faults keeper.old) (K.faults keeper.new) (K.append_faults keeper.new) (K.told keeper.old) (K.told keeper.new) }
+    ensures cause { HasCause (IsErrOf result KeepError.Failed) (K.faults keeper.old)
+        (K.faults keeper.new) }
+    ensures due { Due (IsErrOf result KeepError.Failed) (K.faults keeper.old)
+        (K.append_faults keeper.old) (K.faults keeper.new) (K.append_faults keeper.new)
+        (K.told keeper.old) (K.told keeper.new) }
     ensures appends { K.append_faults keeper.new ≡ K.append_faults keeper.old }
 {
     let mut scans = empty_scans(alloc, roots, books, set)?;

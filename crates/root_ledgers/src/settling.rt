@@ -16,7 +16,8 @@ use quota_roots::{RootSet, Roots};
 use quota_units::{Failed, Limits, Name, Totals};
 use std::alloc::Global;
 
-/// Installs the folded text of a fresh scan as the ledger of a root in doubt, which is settled then.
+/// Installs the folded text of a fresh scan as the ledger of a root in doubt, which is settled
+/// then.
 ///
 /// # Errors
 ///
@@ -36,14 +37,18 @@ fn settle_by<K: Keeper>(
     requires kept { All (λ book. AreSmall book.totals) books.old.items }
     requires doubt { (book_at books.old.items root).standing ≡ Doubt }
     requires totals { AreSmall totals }
-    requires fresh { IfSome (K.told keeper.old) (λ t. totals ≡ scan roots.now root mailboxes.now t.files.rows) }
-    ensures files { Changes (OnFiles (Settling (nat_eq root) roots.now mailboxes.now (kept_of limits.now books.old.items) (kept_of limits.now books.new.items))) (K.told keeper.old) (K.told keeper.new) }
+    requires fresh { IfSome (K.told keeper.old)
+        (λ t. totals ≡ scan roots.now root mailboxes.now t.files.rows) }
+    ensures files { Changes (OnFiles (Settling (nat_eq root) roots.now mailboxes.now
+        (kept_of limits.now books.old.items) (kept_of limits.now books.new.items)))
+        (K.told keeper.old) (K.told keeper.new) }
     ensures marks { Marks (nat_eq root) books.old.items books.new.items }
     ensures small { All (λ book. AreSmall book.totals) books.new.items }
     ensures settled { OnOk result ((book_at books.new.items root).standing ≡ Settled) }
     ensures stays { OnErr result (books.new.items ≡ books.old.items) }
     ensures cause { HasCause (IsErr result) (K.faults keeper.old) (K.faults keeper.new) }
-    ensures due { Due (IsErr result) (K.faults keeper.old) (K.append_faults keeper.old) (K.faults keeper.new) (K.append_faults keeper.new) (K.told keeper.old) (K.told keeper.new) }
+    ensures due { Due (IsErr result) (K.faults keeper.old) (K.append_faults keeper.old)
+        (K.faults keeper.new) (K.append_faults keeper.new) (K.told keeper.old) (K.told keeper.new) }
     ensures appends { K.append_faults keeper.new ≡ K.append_faults keeper.old }
 {
     // The account has at most four roots.
@@ -72,14 +77,21 @@ pub(crate) fn settle<K: Keeper>(
     requires limits { length limits.now ≡ length roots.now }
     requires books { length books.old.items ≡ length roots.now }
     requires small { All (λ book. AreSmall book.totals) books.old.items }
-    ensures files { Changes (OnFiles (Settling (has_root set) roots.now mailboxes.now (kept_of limits.now books.old.items) (kept_of limits.now books.new.items))) (K.told keeper.old) (K.told keeper.new) }
+    ensures files { Changes (OnFiles (Settling (has_root set) roots.now mailboxes.now
+        (kept_of limits.now books.old.items) (kept_of limits.now books.new.items)))
+        (K.told keeper.old) (K.told keeper.new) }
     ensures marks { Marks (has_root set) books.old.items books.new.items }
     ensures small { All (λ book. AreSmall book.totals) books.new.items }
-    ensures settled { OnOk result ((root : ℕ) → root < length roots.now → has_root set root ≡ true → (book_at books.new.items root).standing ≡ Settled) }
+    ensures settled { OnOk result ((root : ℕ) → root < length roots.now → has_root set root ≡ true
+        → (book_at books.new.items root).standing ≡ Settled) }
     ensures failed { IsErrOf result KeepError.Failed → StaysInDoubt (has_root set) books.new.items }
-    ensures spared { IsErrOf result KeepError.NoMemory → Spared (kept_of limits.now books.old.items) (kept_of limits.now books.new.items) (K.told keeper.old) (K.told keeper.new) }
-    ensures cause { HasCause (IsErrOf result KeepError.Failed) (K.faults keeper.old) (K.faults keeper.new) }
-    ensures due { Due (IsErrOf result KeepError.Failed) (K.faults keeper.old) (K.append_faults keeper.old) (K.faults keeper.new) (K.append_faults keeper.new) (K.told keeper.old) (K.told keeper.new) }
+    ensures spared { IsErrOf result KeepError.NoMemory → Spared (kept_of limits.now books.old.items)
+        (kept_of limits.now books.new.items) (K.told keeper.old) (K.told keeper.new) }
+    ensures cause { HasCause (IsErrOf result KeepError.Failed) (K.faults keeper.old)
+        (K.faults keeper.new) }
+    ensures due { Due (IsErrOf result KeepError.Failed) (K.faults keeper.old)
+        (K.append_faults keeper.old) (K.faults keeper.new) (K.append_faults keeper.new)
+        (K.told keeper.old) (K.told keeper.new) }
     ensures appends { K.append_faults keeper.new ≡ K.append_faults keeper.old }
 {
     let scans = scan_each(alloc, keeper, roots, mailboxes, books, set)?;

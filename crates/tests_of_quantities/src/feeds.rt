@@ -21,7 +21,8 @@ fn source(alloc: Global, text: &[u8], piece: usize, fail: u64) -> Result<MemSour
 #[test]
 fn a_feed_ends_at_the_end_at_a_fault_and_at_its_limit(rt: HostRuntime) -> Result<(), Fail> {
     let alloc = rt.alloc();
-    // The read that fails and the feed's limit; how a line ends, what is handed out, how two bytes more end, and what is handed out.
+    // The read that fails and the feed's limit; how a line ends, what is handed out, how two bytes
+    // more end, and what is handed out.
     let cases = [
         (
             0,
@@ -49,7 +50,8 @@ fn a_feed_ends_at_the_end_at_a_fault_and_at_its_limit(rt: HostRuntime) -> Result
 #[test]
 fn a_line_is_whole_too_long_or_cut(rt: HostRuntime) -> Result<(), Fail> {
     let alloc = rt.alloc();
-    // The text, the most bytes of a read, the feed's limit and those of the line; how it ends, and what is handed out.
+    // The text, the most bytes of a read, the feed's limit and those of the line; how it ends, and
+    // what is handed out.
     let cases = [
         ("abc\nd", 9, 100, 4, Ok(LineEnd::Whole), "abc\n"),
         ("abc\nd", 1, 100, 4, Ok(LineEnd::Whole), "abc\n"),
@@ -84,7 +86,8 @@ fn a_line_is_whole_too_long_or_cut(rt: HostRuntime) -> Result<(), Fail> {
 #[test]
 fn so_many_bytes_are_all_or_cut(rt: HostRuntime) -> Result<(), Fail> {
     let alloc = rt.alloc();
-    // The text, the most bytes of a read, the feed's limit and the count; how it ends, and what is handed out.
+    // The text, the most bytes of a read, the feed's limit and the count; how it ends, and what is
+    // handed out.
     let cases = [
         ("ab\ncd", 9, 100, 4, Ok(()), "ab\nc"),
         ("ab\ncd", 1, 100, 4, Ok(()), "ab\nc"),

@@ -17,7 +17,8 @@ fn row(alloc: Global, mailbox: &[u8], name: &[u8], octets: &[u8]) -> Result<Stor
     })
 }
 
-/// A keeper with the files a of 3 octets and b of 5 in INBOX, one of its name in Lists, and a ledger of root 0.
+/// A keeper with the files a of 3 octets and b of 5 in INBOX, one of its name in Lists, and a
+/// ledger of root 0.
 fn keeper(alloc: Global, fails: &[KeepFail]) -> Result<MemKeeper, Fail> {
     let rows = vec![in alloc;
         row(alloc, b"INBOX", b"a", b"123")?,

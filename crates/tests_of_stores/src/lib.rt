@@ -1,4 +1,5 @@
-//! Tests of keepers in memory and over folders, of the names of deliveries, of openings, and of the turn lock.
+//! Tests of keepers in memory and over folders, of the names of deliveries, of openings, and of the
+//! turn lock.
 #![tactic(auto)]
 
 #[cfg(test)]

@@ -24,8 +24,8 @@ fn setup(alloc: Global) -> Result<Setup, Fail> {
     })
 }
 
-/// Opens an account of the epoch 1700000000 that has empty files of these mailboxes and names, and this ledger, by a keeper
-/// that fails these calls.
+/// Opens an account of the epoch 1700000000 that has empty files of these mailboxes and names, and
+/// this ledger, by a keeper that fails these calls.
 fn open(
     alloc: Global,
     files: &[(&[u8], &[u8])],

@@ -45,7 +45,8 @@ impl Tally {
 
     /// Adds an entry of this caller, which asks for the root of this name.
     fn add(&mut self, alloc: Global, caller: u32, name: &[u8]) -> Result<(), NoMemory>
-        ensures ok { OnOk result ((e : Entry) × (e.caller ≡ caller) × (self.new.entries.items ≡ self.old.entries.items ++ e ∷ [])) }
+        ensures ok { OnOk result ((e : Entry) × (e.caller ≡ caller)
+            × (self.new.entries.items ≡ self.old.entries.items ++ e ∷ [])) }
         ensures err { OnErr result (self.new.entries.items ≡ self.old.entries.items) }
     {
         let root = Name::of(alloc, name).map_err(|_| NoMemory)?;
@@ -68,7 +69,8 @@ fn call<R: Wait>(
 ) -> Result<(), NoMemory>
     requires { IsOf lock.now pass.old }
     ensures lock { IsOf lock.now pass.new }
-    ensures same { ((view pass.new).number ≡ (view pass.old).number) × ((view pass.new).held ≡ (view pass.old).held) × ((view pass.new).made ≡ (view pass.old).made) }
+    ensures same { ((view pass.new).number ≡ (view pass.old).number) × ((view pass.new).held
+        ≡ (view pass.old).held) × ((view pass.new).made ≡ (view pass.old).made) }
     ensures ok { OnOk result ((view pass.new).own ≡ (view pass.old).own + 1) }
     ensures err { OnErr result ((view pass.new).own ≡ (view pass.old).own) }
 {
@@ -148,7 +150,8 @@ fn make_calls<R: Wait>(
 ) -> Result<(), NoMemory>
     requires { IsOf lock.now pass.old }
     ensures lock { IsOf lock.now pass.new }
-    ensures same { ((view pass.new).number ≡ (view pass.old).number) × ((view pass.new).held ≡ (view pass.old).held) × ((view pass.new).made ≡ (view pass.old).made) }
+    ensures same { ((view pass.new).number ≡ (view pass.old).number) × ((view pass.new).held
+        ≡ (view pass.old).held) × ((view pass.new).made ≡ (view pass.old).made) }
 {
     for number in 0..CALLS {
         let name = format!(in alloc; "{number}")?;
@@ -161,7 +164,8 @@ fn make_calls<R: Wait>(
 fn work<R: Wait>(rt: &R, alloc: Global, lock: &Lock<Tally>, mut pass: Pass) -> (Pass, bool)
     requires { IsOf lock.now pass }
     ensures lock { IsOf lock.now result.0 }
-    ensures same { ((view result.0).number ≡ (view pass).number) × ((view result.0).held ≡ (view pass).held) × ((view result.0).made ≡ (view pass).made) }
+    ensures same { ((view result.0).number ≡ (view pass).number)
+        × ((view result.0).held ≡ (view pass).held) × ((view result.0).made ≡ (view pass).made) }
 {
     let made = make_calls(rt, alloc, lock, &mut pass);
     (pass, made.is_ok())
@@ -178,7 +182,8 @@ fn work_in_two<R: Threads + Wait + Sync>(
     requires lock { IsOf lock.now first × IsOf lock.now second }
     requires second { (view second).number ≢ 0 }
     ensures lock { IsOf lock.now result.0 }
-    ensures same { ((view result.0).number ≡ (view first).number) × ((view result.0).made ≡ (view first).made) }
+    ensures same { ((view result.0).number ≡ (view first).number)
+        × ((view result.0).made ≡ (view first).made) }
     ensures held { (view result.0).held ≡ (view first).held + (view second).held }
 {
     let ((mut first, made), (second, also)) = join(
@@ -243,7 +248,8 @@ fn work_in_four<R: Threads + Wait + Sync>(
     requires third { IsOf lock.now third × ((view third).number ≢ 0) }
     requires fourth { IsOf lock.now fourth × ((view fourth).number ≢ 0) }
     ensures lock { IsOf lock.now result.0 }
-    ensures same { ((view result.0).number ≡ (view first).number) × ((view result.0).made ≡ (view first).made) }
+    ensures same { ((view result.0).number ≡ (view first).number)
+        × ((view result.0).made ≡ (view first).made) }
 {
     let ((mut first, made), (third, also)) = join(
         rt,
@@ -251,13 +257,15 @@ fn work_in_four<R: Threads + Wait + Sync>(
             requires lock { IsSync R.row × IsOf lock.now first × IsOf lock.now second }
             requires second { (view second).number ≢ 0 }
             ensures lock { IsOf lock.entry.now result.0 }
-            ensures same { ((view result.0).number ≡ (view first).number) × ((view result.0).made ≡ (view first).made) }
+            ensures same { ((view result.0).number ≡ (view first).number)
+                × ((view result.0).made ≡ (view first).made) }
         { work_in_two(rt, alloc, lock, first, second) },
         || -> (Pass, bool)
             requires lock { IsSync R.row × IsOf lock.now third × IsOf lock.now fourth }
             requires second { (view fourth).number ≢ 0 }
             ensures lock { IsOf lock.entry.now result.0 }
-            ensures same { ((view result.0).number ≡ (view third).number) × ((view result.0).made ≡ (view third).made) }
+            ensures same { ((view result.0).number ≡ (view third).number)
+                × ((view result.0).made ≡ (view third).made) }
         { work_in_two(rt, alloc, lock, third, fourth) },
     );
     lock.join(&mut first, third);
@@ -296,21 +304,24 @@ fn eight_threads_share_one_history(rt: HostRuntime) -> Result<(), Fail> {
 fn call_once<R: Wait>(rt: &R, alloc: Global, lock: &Lock<Tally>, mut pass: Pass) -> (Pass, bool)
     requires { IsOf lock.now pass }
     ensures lock { IsOf lock.now result.0 }
-    ensures same { ((view result.0).number ≡ (view pass).number) × ((view result.0).held ≡ (view pass).held) × ((view result.0).made ≡ (view pass).made) }
+    ensures same { ((view result.0).number ≡ (view pass).number)
+        × ((view result.0).held ≡ (view pass).held) × ((view result.0).made ≡ (view pass).made) }
     ensures own { (view result.0).own ≡ (view pass).own + (if result.1 then 1 else 0) }
 {
     let made = call(rt, alloc, lock, &mut pass, b"");
     (pass, made.is_ok())
 }
 
-/// What two threads do, each with one call: of a history that is closed, each entry is one of these calls.
+/// What two threads do, each with one call: of a history that is closed, each entry is one of these
+/// calls.
 fn call_in_two<R: Threads + Wait + Sync>(
     rt: &R,
     alloc: Global,
     tally: Tally,
 ) -> Option<(Tally, bool, bool)>
     requires { tally.entries.items ≡ [] }
-    ensures calls { IfSome result (λ end. length end.0.entries.items ≡ (if end.1 then 1 else 0) + (if end.2 then 1 else 0)) }
+    ensures calls { IfSome result
+        (λ end. length end.0.entries.items ≡ (if end.1 then 1 else 0) + (if end.2 then 1 else 0)) }
     ensures callers { IfSome result (λ end. CallersBelow 2 end.0.entries.items) }
 {
     let Ok((lock, mut first)) = Lock::new(alloc, tally, 2) else {

@@ -10,9 +10,10 @@ use std::str;
 use std::test::Fail;
 use wire_io::Wire;
 
-/// What files are answered. A line that begins with `= ` is the frame of the rows below it, which stand at its `...`. A row
-/// has its text and then, after ` => `, the answer. In both `;` ends a line of the file, and `<N:TEXT>` stands for N copies of
-/// TEXT, each with its number, from 0 on, for a `#`.
+/// What files are answered. A line that begins with `= ` is the frame of the rows below it, which
+/// stand at its `...`. A row has its text and then, after ` => `, the answer. In both `;` ends a
+/// line of the file, and `<N:TEXT>` stands for N copies of TEXT, each with its number, from 0 on,
+/// for a `#`.
 const ANSWERS: &str = r#"= ...
 [ => not TOML
  => missing account
@@ -139,7 +140,8 @@ root = [{}, {prefix = "Lists"}];[[account]];password = "p";name = "bob";token = 
 token = "TOK"; => accepted
 "#;
 
-/// What files hold: a file, as in `ANSWERS`, and then rows, each with a question to its table, ` => ` and the answer.
+/// What files hold: a file, as in `ANSWERS`, and then rows, each with a question to its table, ` =>
+/// ` and the answer.
 const READINGS: [(&str, &str); 5] = [
     (
         r#"[[account]];name = "ann";password = "pw";token = "tok";admin = true;recipients = ["ann@example.org"];mailboxes = ["INBOX", "Lists", "Trash"];[[account.root]];name = "";"#,
@@ -179,7 +181,8 @@ account 1 => bob, admin false, journal 65536, sound true, mailboxes INBOX Lists 
     ),
 ];
 
-/// What the table of one account without secrets holds, whose limits are 524288 octets and 500 messages.
+/// What the table of one account without secrets holds, whose limits are 524288 octets and 500
+/// messages.
 const PLAIN: &str = "host => 1 accounts, epoch 0, 2 workers, ports None None None
 account 0 => main, admin true, journal 65536, sound true, mailboxes INBOX Trash, root '' Some(524288) Some(500) of INBOX Lists
 named main => Some(0)
@@ -329,7 +332,8 @@ fn host(alloc: Global, table: &HostTable) -> Result<String, Fail> {
     )?)
 }
 
-/// Writes a root with its limits of octets and messages, and which of INBOX, Lists and Trash it governs.
+/// Writes a root with its limits of octets and messages, and which of INBOX, Lists and Trash it
+/// governs.
 fn push_root(
     alloc: Global,
     text: &mut String,

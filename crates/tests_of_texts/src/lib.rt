@@ -1,4 +1,5 @@
-//! Tests of the texts that are read and written: ledgers, file names, IMAP commands and accounts files.
+//! Tests of the texts that are read and written: ledgers, file names, IMAP commands and accounts
+//! files.
 #![tactic(auto)]
 
 #[cfg(test)]

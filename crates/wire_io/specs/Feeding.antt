@@ -10,8 +10,10 @@ use Rattle.wire_io.specs.declared.ends.FeedEnd.TheVariants.{Fault, Ended, Limit,
 abbrev pub gained : List ℕ → List ℕ → List ℕ
 gained old new = drop (length old) new
 
--- The bytes `got` came from the source. What waited, and then these, is what was handed out, and then what waits now.
-pub record Hands (left left' : Option (List ℕ)) (waiting waiting' : List ℕ) (taken taken' : ℕ) (given : List ℕ) : Type 0 where
+-- The bytes `got` came from the source. What waited, and then these, is what was handed out, and
+-- then what waits now.
+pub record Hands (left left' : Option (List ℕ)) (waiting waiting' : List ℕ) (taken taken' : ℕ)
+    (given : List ℕ) : Type 0 where
   pub got : List ℕ
   pub consumed : Consumes left left' got
   pub joined : waiting ++ got ≡ given ++ waiting'

@@ -5,7 +5,8 @@ use Rattle.std.specs.Prelude.{ℕ, ◌+◌, ◌-◌, ◌^◌, ◌≤◌, ◌⊎�
 abbrev pub next_number : ℕ → ℕ
 next_number made = min (made + 1) (2 ^ 64 - 1)
 
--- a source: the bytes that are left, the most that a read takes, the numbers of the reads that fail, and how many were made and failed
+-- a source: the bytes that are left, the most that a read takes, the numbers of the reads that
+-- fail, and how many were made and failed
 pub record MemoryInput : Type 0 where
   pub left : List ℕ
   pub piece : ℕ
@@ -29,7 +30,8 @@ after_read s count = record s { left = drop count s.left; reads = next_number s.
 abbrev pub after_failed_read : MemoryInput → MemoryInput
 after_failed_read s = record s { reads = next_number s.reads; faults = next_number s.faults }
 
--- a sink: the bytes written, the most that a write takes, the room for bytes, the numbers of the writes that fail, and how many were made and failed
+-- a sink: the bytes written, the most that a write takes, the room for bytes, the numbers of the
+-- writes that fail, and how many were made and failed
 pub record MemoryOutput : Type 0 where
   pub written : List ℕ
   pub piece : ℕ
@@ -48,7 +50,10 @@ write_count s offered = min (min s.piece offered) (s.room - length s.written)
 
 -- after a write of the first bytes of a piece, so many
 abbrev pub after_write : MemoryOutput → List ℕ → ℕ → MemoryOutput
-after_write s offered count = record s { written = s.written ++ take count offered; writes = next_number s.writes }
+after_write s offered count = record s {
+  written = s.written ++ take count offered;
+  writes = next_number s.writes;
+}
 
 -- after a write that failed
 abbrev pub after_failed_write : MemoryOutput → MemoryOutput

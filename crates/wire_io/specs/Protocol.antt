@@ -7,7 +7,8 @@ pub record Protocol (State Request Call Answer : Type 0) : Type 0 where
   pub greeting : List ℕ
   -- what is known at the first request, as who is logged in
   pub start : State
-  -- the request that these bytes are, where they are a whole one; only the shortest such front of a text counts
+  -- the request that these bytes are, where they are a whole one; only the shortest such front of a
+  -- text counts
   pub whole : State → List ℕ → Option Request
   -- what is written when these bytes of a request have come, before it is answered
   pub prompts : State → List ℕ → List ℕ
@@ -26,7 +27,8 @@ spelled_bytes (x ∷ xs) = x.0 ++ spelled_bytes xs
 module _ {State Request Call Answer : Type 0} (p : Protocol State Request Call Answer) where
   -- no shorter front of the bytes is a whole request
   abbrev pub IsFirst : State → List ℕ → Type 0
-  IsFirst state bytes = (front : List ℕ) (b : ℕ) (more : List ℕ) → bytes ≡ front ++ b ∷ more → p.whole state front ≡ None
+  IsFirst state bytes = (front : List ℕ) (b : ℕ) (more : List ℕ) → bytes ≡ front ++ b ∷ more
+      → p.whole state front ≡ None
 
   -- the bytes are a whole request, and no shorter front of them is one
   pub record Spells (state : State) (bytes : List ℕ) (request : Request) : Type 0 where
@@ -44,7 +46,8 @@ module _ {State Request Call Answer : Type 0} (p : Protocol State Request Call A
   Spellings state (x ∷ xs) last = Spells state x.0 x.1 × Spellings (p.next state x.1) xs last
 
   -- the text is these spellings, and less than one more
-  pub record IsCut (state : State) (text : List ℕ) (xs : List (Spelling Request)) (rest : List ℕ) : Type 0 where
+  pub record IsCut (state : State) (text : List ℕ) (xs : List (Spelling Request))
+      (rest : List ℕ) : Type 0 where
     pub last : State
     pub spelled : Spellings state xs last
     pub text_is : text ≡ spelled_bytes xs ++ rest
@@ -53,9 +56,12 @@ module _ {State Request Call Answer : Type 0} (p : Protocol State Request Call A
   -- from each state each text has a cut, and no other
   pub record HasOneCut (state : State) (text : List ℕ) : Type 0 where
     pub cut : (xs : List (Spelling Request)) × (rest : List ℕ) × IsCut state text xs rest
-    pub only : (xs ys : List (Spelling Request)) (rest other : List ℕ) → IsCut state text xs rest → IsCut state text ys other → (ys ≡ xs) × (other ≡ rest)
+    pub only : (xs ys : List (Spelling Request)) (rest other : List ℕ) → IsCut state text xs rest
+        → IsCut state text ys other → (ys ≡ xs) × (other ≡ rest)
 
-  -- what a front has to see to: no request is whole before its first byte, and each text goes on to have a whole one
+  -- what a front has to see to: no request is whole before its first byte, and each text goes on to
+  -- have a whole one
   pub record IsFilled : Type 0 where
     pub starts : (state : State) → p.whole state [] ≡ None
-    pub fills : (state : State) (text : List ℕ) → (more : List ℕ) × (request : Request) × (p.whole state (text ++ more) ≡ Some request)
+    pub fills : (state : State) (text : List ℕ) → (more : List ℕ) × (request : Request)
+        × (p.whole state (text ++ more) ≡ Some request)

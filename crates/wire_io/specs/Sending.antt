@@ -5,4 +5,5 @@ use Rattle.std.specs.Io.KnownBytes.{Appends}
 
 -- a front of the bytes was written, and not all of them
 abbrev pub AppendsPart : Option (List ℕ) → Option (List ℕ) → List ℕ → Type 0
-AppendsPart written written' bytes = (sent : ℕ) × (sent < length bytes) × Appends written written' (take sent bytes)
+AppendsPart written written' bytes = (sent : ℕ) × (sent < length bytes)
+    × Appends written written' (take sent bytes)

@@ -1,4 +1,5 @@
--- What a session is: requests spelled one after another, the calls that they ask for, and the texts that answer them.
+-- What a session is: requests spelled one after another, the calls that they ask for, and the texts
+-- that answer them.
 use Rattle.std.specs.Prelude.{◌≡◌, ◌≢◌, ◌⊎◌, ◌+◌, ◌<◌, ◌≤◌, ℕ, List, [], ◌∷◌, ◌++◌, length}
 use Rattle.wire_io.specs.declared.ends.After.{After}
 use Rattle.wire_io.specs.declared.ends.After.TheVariants.{Open, Closing, Stopping}
@@ -7,7 +8,8 @@ use Rattle.wire_io.specs.declared.ends.SessionEnd.TheVariants.{Closed, Stopped, 
 use Rattle.wire_io.specs.Work.{Does, AsksFirst, AlwaysEnds}
 use Rattle.wire_io.specs.Protocol.{Protocol, Spelling, spelled_bytes, Spells, IsRest}
 
--- One request of a session: its bytes, what they spell, its calls with their answers, and all that is written for it.
+-- One request of a session: its bytes, what they spell, its calls with their answers, and all that
+-- is written for it.
 pub record Exchange (Request Call Answer : Type 0) : Type 0 where
   pub bytes : List ℕ
   pub request : Request
@@ -33,7 +35,8 @@ IsFront front whole = (more : List ℕ) × (whole ≡ front ++ more)
 
 module _ {State Request Call Answer : Type 0} (p : Protocol State Request Call Answer) where
   -- a request that is spelled and answered in full, and what the session does after it
-  pub record IsExchange (state : State) (x : Exchange Request Call Answer) (after : After) : Type 0 where
+  pub record IsExchange (state : State) (x : Exchange Request Call Answer)
+      (after : After) : Type 0 where
     pub answer : List ℕ
     pub spelled : Spells p state x.bytes x.request
     pub worked : Does (p.work state x.request) x.log answer after
@@ -42,20 +45,24 @@ module _ {State Request Call Answer : Type 0} (p : Protocol State Request Call A
   -- one after another, from one state to another, with the session going on after each
   abbrev pub Exchanges : State → List (Exchange Request Call Answer) → State → Type 0
   Exchanges state [] last = last ≡ state
-  Exchanges state (x ∷ xs) last = IsExchange state x Open × Exchanges (p.next state x.request) xs last
+  Exchanges state (x ∷ xs) last = IsExchange state x Open
+      × Exchanges (p.next state x.request) xs last
 
   -- what came of a request: less than it, or all of it
   abbrev pub IsPartOrAll : State → List ℕ → Type 0
   IsPartOrAll state come = IsRest p state come ⊎ ((request : Request) × Spells p state come request)
 
   -- the session waits for more of a request, with its prompts written
-  pub record Waits (state : State) (rest : List ℕ) (log : List (Call × Answer)) (text : List ℕ) : Type 0 where
+  pub record Waits (state : State) (rest : List ℕ) (log : List (Call × Answer))
+      (text : List ℕ) : Type 0 where
     pub less : IsRest p state rest
     pub no_calls : log ≡ []
     pub prompted : text ≡ p.prompts state rest
 
-  -- the last request is answered in full, and then the session does not go on; bytes that came after it are not looked at
-  pub record Finishes (state : State) (rest : List ℕ) (log : List (Call × Answer)) (text : List ℕ) (after : After) : Type 0 where
+  -- the last request is answered in full, and then the session does not go on; bytes that came
+  -- after it are not looked at
+  pub record Finishes (state : State) (rest : List ℕ) (log : List (Call × Answer)) (text : List ℕ)
+      (after : After) : Type 0 where
     pub x : Exchange Request Call Answer
     pub unread : List ℕ
     pub exchange : IsExchange state x after
@@ -64,7 +71,8 @@ module _ {State Request Call Answer : Type 0} (p : Protocol State Request Call A
     pub text_is : text ≡ x.text
 
   -- all calls of a request were made, and a front of what is written for it was
-  pub record CutInText (state : State) (rest : List ℕ) (log : List (Call × Answer)) (text : List ℕ) : Type 0 where
+  pub record CutInText (state : State) (rest : List ℕ) (log : List (Call × Answer))
+      (text : List ℕ) : Type 0 where
     pub x : Exchange Request Call Answer
     pub unread : List ℕ
     pub after : After
@@ -74,7 +82,8 @@ module _ {State Request Call Answer : Type 0} (p : Protocol State Request Call A
     pub front : IsFront text x.text
 
   -- a front of the prompts of a request was written, of which this had come
-  pub record CutInPrompts (state : State) (rest : List ℕ) (log : List (Call × Answer)) (text : List ℕ) : Type 0 where
+  pub record CutInPrompts (state : State) (rest : List ℕ) (log : List (Call × Answer))
+      (text : List ℕ) : Type 0 where
     pub come : List ℕ
     pub unread : List ℕ
     pub part_or_all : IsPartOrAll state come
@@ -82,30 +91,40 @@ module _ {State Request Call Answer : Type 0} (p : Protocol State Request Call A
     pub no_calls : log ≡ []
     pub front : IsFront text (p.prompts state come)
 
-  -- the prompts of a request were written, of which this had come, and at most its first calls were made
-  pub record GivesUp (state : State) (rest : List ℕ) (log : List (Call × Answer)) (text : List ℕ) : Type 0 where
+  -- the prompts of a request were written, of which this had come, and at most its first calls were
+  -- made
+  pub record GivesUp (state : State) (rest : List ℕ) (log : List (Call × Answer))
+      (text : List ℕ) : Type 0 where
     pub come : List ℕ
     pub unread : List ℕ
     pub part_or_all : IsPartOrAll state come
     pub rest_is : rest ≡ come ++ unread
     pub prompted : text ≡ p.prompts state come
-    pub begun : (log ≡ []) ⊎ ((request : Request) × Spells p state come request × AsksFirst (p.work state request) log)
+    pub begun : (log ≡ [])
+        ⊎ ((request : Request) × Spells p state come request × AsksFirst (p.work state request) log)
 
-  -- How a session ends after the requests that it outlived: by what came after them, at this place, by the calls and the text.
-  -- `nothing_left` says that the input has no more bytes.
-  abbrev pub Ends : ℕ → Type 0 → State → ℕ → List ℕ → List (Call × Answer) → List ℕ → SessionEnd → Type 0
+  -- How a session ends after the requests that it outlived: by what came after them, at this place,
+  -- by the calls and the text. `nothing_left` says that the input has no more bytes.
+  abbrev pub Ends : ℕ → Type 0 → State → ℕ → List ℕ → List (Call × Answer) → List ℕ → SessionEnd
+      → Type 0
   Ends limit nothing_left state at rest log text Closed =
-      ((rest ≡ []) × (at < limit) × nothing_left × Waits state rest log text) ⊎ Finishes state rest log text Closing
+      ((rest ≡ []) × (at < limit) × nothing_left × Waits state rest log text)
+      ⊎ Finishes state rest log text Closing
   Ends limit nothing_left state at rest log text Stopped = Finishes state rest log text Stopping
   Ends limit nothing_left state at rest log text (Truncated offset) =
-      (rest ≢ []) × (at + length rest < limit) × nothing_left × (offset ≡ at) × Waits state rest log text
-  Ends limit nothing_left state at rest log text InputLimit = (at + length rest ≡ limit) × Waits state rest log text
+      (rest ≢ []) × (at + length rest < limit) × nothing_left × (offset ≡ at)
+      × Waits state rest log text
+  Ends limit nothing_left state at rest log text InputLimit = (at + length rest ≡ limit)
+      × Waits state rest log text
   Ends limit nothing_left state at rest log text ReadFault = Waits state rest log text
-  Ends limit nothing_left state at rest log text WriteFault = CutInText state rest log text ⊎ CutInPrompts state rest log text
+  Ends limit nothing_left state at rest log text WriteFault = CutInText state rest log text
+      ⊎ CutInPrompts state rest log text
   Ends limit nothing_left state at rest log text NoMemory = GivesUp state rest log text
 
-  -- The bytes taken, the calls with their answers, the bytes written and the end are those of a session of the protocol.
-  pub record IsWorked (limit : ℕ) (nothing_left : Type 0) (taken : List ℕ) (log : List (Call × Answer)) (written : List ℕ) (end : SessionEnd) : Type 0 where
+  -- The bytes taken, the calls with their answers, the bytes written and the end are those of a
+  -- session of the protocol.
+  pub record IsWorked (limit : ℕ) (nothing_left : Type 0) (taken : List ℕ)
+      (log : List (Call × Answer)) (written : List ℕ) (end : SessionEnd) : Type 0 where
     pub exchanges : List (Exchange Request Call Answer)
     pub state : State
     pub rest : List ℕ
@@ -116,36 +135,47 @@ module _ {State Request Call Answer : Type 0} (p : Protocol State Request Call A
     pub within : length taken ≤ limit
     pub log_is : log ≡ log_of exchanges ++ last_log
     pub written_is : written ≡ p.greeting ++ (text_of exchanges ++ last_text)
-    pub ends : Ends limit nothing_left state (length (bytes_of exchanges)) rest last_log last_text end
+    pub ends : Ends limit nothing_left state
+        (length (bytes_of exchanges)) rest last_log last_text end
 
   -- or not even the greeting could be written whole, and then no request was worked
   abbrev pub Session : ℕ → Type 0 → List ℕ → List (Call × Answer) → List ℕ → SessionEnd → Type 0
-  Session limit nothing_left taken log written end = IsWorked limit nothing_left taken log written end
+  Session limit nothing_left taken log written end =
+      IsWorked limit nothing_left taken log written end
       ⊎ ((end ≡ WriteFault) × (taken ≡ []) × (log ≡ []) × IsFront written p.greeting)
 
-  -- requests one after another, after each of which the session goes on, whatever its calls are answered
+  -- requests one after another, after each of which the session goes on, whatever its calls are
+  -- answered
   abbrev pub Outlives : State → List (Spelling Request) → State → Type 0
   Outlives state [] last = last ≡ state
-  Outlives state (x ∷ xs) last = Spells p state x.0 x.1 × AlwaysEnds (p.work state x.1) Open × Outlives (p.next state x.1) xs last
+  Outlives state (x ∷ xs) last = Spells p state x.0 x.1 × AlwaysEnds (p.work state x.1) Open
+      × Outlives (p.next state x.1) xs last
 
-  -- a request stands at the front of the bytes, within the limit, and after it the session does this, whatever its calls are answered
+  -- a request stands at the front of the bytes, within the limit, and after it the session does
+  -- this, whatever its calls are answered
   abbrev pub IsFinished : ℕ → State → ℕ → List ℕ → After → Type 0
-  IsFinished limit state at bytes after = (own : List ℕ) × (request : Request) × (unread : List ℕ) × Spells p state own request
-      × AlwaysEnds (p.work state request) after × (bytes ≡ own ++ unread) × (at + length own ≤ limit)
+  IsFinished limit state at bytes after = (own : List ℕ) × (request : Request) × (unread : List ℕ)
+      × Spells p state own request
+      × AlwaysEnds (p.work state request) after × (bytes ≡ own ++ unread)
+      × (at + length own ≤ limit)
 
   -- how the bytes behind the requests that a session outlives end it, where nothing fails
   abbrev pub RestEnds : ℕ → State → ℕ → List ℕ → SessionEnd → Type 0
-  RestEnds limit state at bytes Closed = ((bytes ≡ []) × (at < limit)) ⊎ IsFinished limit state at bytes Closing
+  RestEnds limit state at bytes Closed = ((bytes ≡ []) × (at < limit))
+      ⊎ IsFinished limit state at bytes Closing
   RestEnds limit state at bytes Stopped = IsFinished limit state at bytes Stopping
-  RestEnds limit state at bytes (Truncated offset) = (bytes ≢ []) × (at + length bytes < limit) × (offset ≡ at) × IsRest p state bytes
-  RestEnds limit state at bytes InputLimit = (front more : List ℕ) × (bytes ≡ front ++ more) × (at + length front ≡ limit) × IsRest p state front
+  RestEnds limit state at bytes (Truncated offset) = (bytes ≢ []) × (at + length bytes < limit)
+      × (offset ≡ at) × IsRest p state bytes
+  RestEnds limit state at bytes InputLimit = (front more : List ℕ) × (bytes ≡ front ++ more)
+      × (at + length front ≡ limit) × IsRest p state front
   RestEnds limit state at bytes ReadFault = ⊥
   RestEnds limit state at bytes WriteFault = ⊥
   RestEnds limit state at bytes NoMemory = ⊥
 
   -- whatever the calls of a request are answered, the session does the same after it
   abbrev pub EndsOneWay : Type 0
-  EndsOneWay = (state : State) (request : Request) → (word : After) × AlwaysEnds (p.work state request) word
+  EndsOneWay = (state : State) (request : Request) → (word : After)
+      × AlwaysEnds (p.work state request) word
 
   -- how an input ends a session of the protocol, where nothing fails
   pub record InputEnds (limit : ℕ) (input : List ℕ) (end : SessionEnd) : Type 0 where
@@ -159,9 +189,11 @@ module _ {State Request Call Answer : Type 0} (p : Protocol State Request Call A
 module _ {State Request Call Answer : Type 0} (p : Protocol State Request Call Answer) where
   -- The input has an end that it decides, and a session of it ends so, unless something failed or
   -- memory ran out.
-  pub record EndsAsDecided (limit : ℕ) (input : List ℕ) (failed : Type 0) (end : SessionEnd) : Type 0 where
+  pub record EndsAsDecided (limit : ℕ) (input : List ℕ) (failed : Type 0)
+      (end : SessionEnd) : Type 0 where
     pub decides : (due : SessionEnd) × InputEnds p limit input due
-    pub ends : (due : SessionEnd) → InputEnds p limit input due → ¬ failed → (end ≡ due) ⊎ (end ≡ NoMemory)
+    pub ends : (due : SessionEnd) → InputEnds p limit input due → ¬ failed → (end ≡ due)
+        ⊎ (end ≡ NoMemory)
 
 -- the end is none that a fault gives
 abbrev pub IsQuiet : SessionEnd → Type 0

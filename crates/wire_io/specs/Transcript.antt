@@ -1,4 +1,5 @@
--- The session that an input gives, as a function, where each call is answered by a world that these calls alone change.
+-- The session that an input gives, as a function, where each call is answered by a world that these
+-- calls alone change.
 use Rattle.std.specs.Prelude.{◌≡◌, ℕ, zero, suc, ◌+◌, nat_le, List, [], ◌∷◌, ◌++◌, length, take, Option, None, Some, if◌then◌else◌}
 use Rattle.wire_io.specs.declared.ends.After.{After}
 use Rattle.wire_io.specs.declared.ends.After.TheVariants.{Open, Closing, Stopping}
@@ -18,9 +19,11 @@ pub record Answers (World Call Answer : Type 0) : Type 0 where
   pub after : World → Call → World
 
 -- the calls with their answers are those of the world, one after the other, up to another world
-abbrev pub IsAnswered : {World Call Answer : Type 0} → Answers World Call Answer → World → List (Call × Answer) → World → Type 0
+abbrev pub IsAnswered : {World Call Answer : Type 0} → Answers World Call Answer → World
+    → List (Call × Answer) → World → Type 0
 IsAnswered by world [] last = last ≡ world
-IsAnswered by world (entry ∷ log) last = (entry.1 ≡ by.answer world entry.0) × IsAnswered by (by.after world entry.0) log last
+IsAnswered by world (entry ∷ log) last = (entry.1 ≡ by.answer world entry.0)
+    × IsAnswered by (by.after world entry.0) log last
 
 -- the text that answers a request, what the session does after it, and the world then
 pub record Done (World : Type 0) : Type 0 where
@@ -28,7 +31,8 @@ pub record Done (World : Type 0) : Type 0 where
   pub after : After
   pub world : World
 
-abbrev pub perform : {World Call Answer : Type 0} → Answers World Call Answer → World → Work Call Answer → Done World
+abbrev pub perform : {World Call Answer : Type 0} → Answers World Call Answer → World
+    → Work Call Answer → Done World
 perform by world (ask call next) = perform by (by.after world call) (next (by.answer world call))
 perform by world (say text after) = record { text = text; after = after; world = world }
 
@@ -38,11 +42,14 @@ pub record Found (Request : Type 0) : Type 0 where
   pub request : Request
   pub behind : List ℕ
 
-abbrev pub or_later : {Request : Type 0} → Option Request → List ℕ → List ℕ → Option (Found Request) → Option (Found Request)
-or_later (Some request) own behind later = Some (record { own = own; request = request; behind = behind })
+abbrev pub or_later : {Request : Type 0} → Option Request → List ℕ → List ℕ → Option (Found Request)
+    → Option (Found Request)
+or_later (Some request) own behind later =
+    Some (record { own = own; request = request; behind = behind })
 or_later None own behind later = later
 
-abbrev pub or_waits : {Request : Type 0} → Option (Found Request) → Transcript → (Found Request → Transcript) → Transcript
+abbrev pub or_waits : {Request : Type 0} → Option (Found Request) → Transcript
+    → (Found Request → Transcript) → Transcript
 or_waits (Some found) waiting served = served found
 or_waits None waiting served = waiting
 
@@ -55,23 +62,31 @@ going_on Stopping text rest = record { text = text; end = Stopped }
 -- the end where less than a request is left, at this place
 abbrev pub end_of_rest : (limit at : ℕ) → List ℕ → SessionEnd
 end_of_rest limit at [] = if nat_le limit at then InputLimit else Closed
-end_of_rest limit at (b ∷ bs) = if nat_le limit (at + length (b ∷ bs)) then InputLimit else Truncated at
+end_of_rest limit at (b ∷ bs) =
+    if nat_le limit (at + length (b ∷ bs)) then InputLimit else Truncated at
 
 module _ {State Request Call Answer : Type 0} (p : Protocol State Request Call Answer) where
   -- the shortest front of `come` and these bytes that is a whole request and no shorter than `come`
   abbrev pub first_request : State → (come : List ℕ) → List ℕ → Option (Found Request)
   first_request state come [] = or_later (p.whole state come) come [] None
-  first_request state come (b ∷ bs) = or_later (p.whole state come) come (b ∷ bs) (first_request state (come ++ b ∷ []) bs)
+  first_request state come (b ∷ bs) =
+      or_later (p.whole state come) come (b ∷ bs) (first_request state (come ++ b ∷ []) bs)
 
   module _ {World : Type 0} (by : Answers World Call Answer) (limit : ℕ) where
     -- the session from this place on, of at most so many requests
     abbrev pub transcript_from : (most : ℕ) → State → World → (at : ℕ) → List ℕ → Transcript
-    transcript_from zero state world at bytes = record { text = p.prompts state bytes; end = end_of_rest limit at bytes }
+    transcript_from zero state world at bytes = record {
+      text = p.prompts state bytes;
+      end = end_of_rest limit at bytes;
+    }
     transcript_from (suc most) state world at bytes =
-        or_waits (first_request state [] bytes) (record { text = p.prompts state bytes; end = end_of_rest limit at bytes }) (λ found.
+        or_waits (first_request state [] bytes)
+        (record { text = p.prompts state bytes; end = end_of_rest limit at bytes }) (λ found.
         let done = perform by world (p.work state found.request) in
-        going_on done.after (p.prompts state found.own ++ done.text) (transcript_from most (p.next state found.request) done.world (at + length found.own) found.behind))
+        going_on done.after (p.prompts state found.own ++ done.text) (transcript_from most
+        (p.next state found.request) done.world (at + length found.own) found.behind))
 
-    -- what the session of an input writes behind its greeting, and how it ends: its first bytes up to the limit are looked at
+    -- what the session of an input writes behind its greeting, and how it ends: its first bytes up
+    -- to the limit are looked at
     abbrev pub transcript : World → List ℕ → Transcript
     transcript world input = transcript_from (suc (length input)) p.start world 0 (take limit input)

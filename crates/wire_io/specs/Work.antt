@@ -13,7 +13,8 @@ module _ {Call Answer : Type 0} where
   Does (say text after) [] written word = (written ≡ text) × (word ≡ after)
   Does (say text after) (entry ∷ log) written word = ⊥
   Does (ask call next) [] written word = ⊥
-  Does (ask call next) (entry ∷ log) written word = (entry.0 ≡ call) × Does (next entry.1) log written word
+  Does (ask call next) (entry ∷ log) written word = (entry.0 ≡ call)
+      × Does (next entry.1) log written word
 
   -- they are the first calls that it asks for
   abbrev pub AsksFirst : Work Call Answer → List (Call × Answer) → Type 0
@@ -23,4 +24,5 @@ module _ {Call Answer : Type 0} where
 
   -- whatever its calls are answered, the session does this after its text
   abbrev pub AlwaysEnds : Work Call Answer → After → Type 0
-  AlwaysEnds work word = (log : List (Call × Answer)) (written : List ℕ) (after : After) → Does work log written after → after ≡ word
+  AlwaysEnds work word = (log : List (Call × Answer)) (written : List ℕ) (after : After)
+      → Does work log written after → after ≡ word

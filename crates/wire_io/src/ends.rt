@@ -76,7 +76,8 @@ pub enum SessionEnd {
     Closed,
     /// A stopping answer was written.
     Stopped,
-    /// The input ended inside a request whose first byte is at this offset, counted from the session's first byte.
+    /// The input ended inside a request whose first byte is at this offset, counted from the
+    /// session's first byte.
     Truncated { at: u64 },
     /// So many bytes were taken as a session may take, and one more was needed.
     InputLimit,

@@ -9,7 +9,8 @@ use super::source::Source;
 use memchr::memchr;
 use quota_units::NoMemory;
 
-/// How many of the first bytes belong to a line that has room for so many more, and whether they end it.
+/// How many of the first bytes belong to a line that has room for so many more, and whether they
+/// end it.
 fn line_front(bytes: &[u8], room: usize) -> (usize, bool)
     requires some { 0 < length bytes.now }
     requires room { 0 < room }
@@ -26,7 +27,8 @@ fn line_front(bytes: &[u8], room: usize) -> (usize, bool)
     }
 }
 
-/// Hands out the bytes of a source, line by line or so many at once, and never takes more of them than its limit.
+/// Hands out the bytes of a source, line by line or so many at once, and never takes more of them
+/// than its limit.
 ///
 /// It reads ahead, at most 4096 bytes, and only where a byte is needed and none waits.
 pub struct Feed<'a, S: Source> {
@@ -83,14 +85,15 @@ impl<'a, S: Source> Feed<'a, S> {
 
     /// Appends one line, its line feed included, and says that it is whole.
     ///
-    /// A line has at most `max` bytes. Where so many hold no line feed, these are appended, and the line is too long.
-    /// It reads only where a byte is needed and none waits; `max` 0 needs none.
+    /// A line has at most `max` bytes. Where so many hold no line feed, these are appended, and the
+    /// line is too long. It reads only where a byte is needed and none waits; `max` 0 needs none.
     ///
     /// # Errors
     ///
-    /// Each comes where one more byte was needed. `Fault`: the read of it failed. `Ended`: the source ended, and fewer
-    /// bytes than the limit were taken. `Limit`: so many were taken as the limit says. What was taken and not handed out
-    /// before is appended then. `NoMemory`: `out` could not grow, and the bytes that it did not gain still wait.
+    /// Each comes where one more byte was needed. `Fault`: the read of it failed. `Ended`: the
+    /// source ended, and fewer bytes than the limit were taken. `Limit`: so many were taken as the
+    /// limit says. What was taken and not handed out before is appended then. `NoMemory`: `out`
+    /// could not grow, and the bytes that it did not gain still wait.
     #[tactic(auto, using(crate::proofs::LineLemmas::line_has_end))]
     pub fn line(&mut self, out: &mut Vec<u8>, max: usize) -> Result<LineEnd, FeedEnd>
         // The source stays the one that was lent, and no more is taken from it than the limit.
@@ -103,11 +106,13 @@ impl<'a, S: Source> Feed<'a, S> {
         ensures hands { Hands (S.left (source_of self.old)) (S.left (source_of self.new))
             (waiting_of self.old) (waiting_of self.new) (taken_of self.old) (taken_of self.new)
             (gained out.old.items out.new.items) }
-        ensures counts { handed_of self.new ≡ handed_of self.old + length (gained out.old.items out.new.items) }
+        ensures counts { handed_of self.new
+            ≡ handed_of self.old + length (gained out.old.items out.new.items) }
 
         ensures most { length (gained out.old.items out.new.items) ≤ max }
         ensures whole { (result ≡ Ok LineEnd.Whole) ↔ IsLine (gained out.old.items out.new.items) }
-        ensures too_long { (result ≡ Ok LineEnd.TooLong) ↔ IsTooLong (gained out.old.items out.new.items) max }
+        ensures too_long { (result ≡ Ok LineEnd.TooLong)
+            ↔ IsTooLong (gained out.old.items out.new.items) max }
 
         // Below the limit the source failed or ended, and where it ended it has no byte left.
         ensures below_limit { (IsErrOf result FeedEnd.Fault ⊎ IsErrOf result FeedEnd.Ended)
@@ -121,7 +126,8 @@ impl<'a, S: Source> Feed<'a, S> {
             ↔ (IsBegun (gained out.old.items out.new.items) max × (waiting_of self.new ≢ [])) }
 
         // A line that waits is handed out without a read.
-        ensures unread { IsOk result → length (gained out.old.items out.new.items) ≤ length (waiting_of self.old)
+        ensures unread { IsOk result
+            → length (gained out.old.items out.new.items) ≤ length (waiting_of self.old)
             → (source_of self.new ≡ source_of self.old) × (taken_of self.new ≡ taken_of self.old) }
 
         ensures later { S.faults (source_of self.old) ≤ S.faults (source_of self.new) }
@@ -161,7 +167,8 @@ impl<'a, S: Source> Feed<'a, S> {
         ensures hands { Hands (S.left (source_of self.old)) (S.left (source_of self.new))
             (waiting_of self.old) (waiting_of self.new) (taken_of self.old) (taken_of self.new)
             (gained out.old.items out.new.items) }
-        ensures counts { handed_of self.new ≡ handed_of self.old + length (gained out.old.items out.new.items) }
+        ensures counts { handed_of self.new
+            ≡ handed_of self.old + length (gained out.old.items out.new.items) }
 
         ensures most { length (gained out.old.items out.new.items) ≤ count }
         ensures all { IsOk result ↔ (length (gained out.old.items out.new.items) ≡ count) }
@@ -178,7 +185,8 @@ impl<'a, S: Source> Feed<'a, S> {
             ↔ ((length (gained out.old.items out.new.items) < count) × (waiting_of self.new ≢ [])) }
 
         // Bytes that wait are handed out without a read.
-        ensures unread { IsOk result → length (gained out.old.items out.new.items) ≤ length (waiting_of self.old)
+        ensures unread { IsOk result
+            → length (gained out.old.items out.new.items) ≤ length (waiting_of self.old)
             → (source_of self.new ≡ source_of self.old) × (taken_of self.new ≡ taken_of self.old) }
 
         ensures later { S.faults (source_of self.old) ≤ S.faults (source_of self.new) }
@@ -236,7 +244,8 @@ impl<'a, S: Source> Feed<'a, S> {
         ensures unread { source_of self.new ≡ source_of self.old }
         ensures same_taken { taken_of self.new ≡ taken_of self.old }
         ensures same_limit { limit_of self.new ≡ limit_of self.old }
-        ensures grows { OnOk result (out.new.items ≡ out.old.items ++ take count (waiting_of self.old)) }
+        ensures grows { OnOk result
+            (out.new.items ≡ out.old.items ++ take count (waiting_of self.old)) }
         ensures rest { OnOk result (waiting_of self.new ≡ drop count (waiting_of self.old)) }
         ensures counts { OnOk result (handed_of self.new ≡ handed_of self.old + count) }
         ensures same_out { OnErr result (out.new.items ≡ out.old.items) }

@@ -6,7 +6,8 @@ ghost use Rattle.wire_io.specs.declared.ends.SessionEnd.{SessionEnd as End};
 
 use crate::SessionEnd;
 
-/// A protocol in which every text goes on to have a whole request cuts each text into requests in exactly one way.
+/// A protocol in which every text goes on to have a whole request cuts each text into requests in
+/// exactly one way.
 pub fn each_text_has_one_cut<State, Request, Call, Answer>()
     ghost p: { Protocol State Request Call Answer }
     ensures { IsFilled p → (state : State) (text : List ℕ) → HasOneCut p state text }
@@ -15,22 +16,28 @@ pub fn each_text_has_one_cut<State, Request, Call, Answer>()
 /// The bytes of an input decide how a session of the protocol ends, unless something fails.
 pub fn an_input_decides_the_end<State, Request, Call, Answer>()
     ghost p: { Protocol State Request Call Answer }
-    ensures { IsFilled p → (limit : ℕ) (input taken left : List ℕ) (log : List (Call × Answer)) (written : List ℕ) (end due : End)
-        → input ≡ taken ++ left → Session p limit (left ≡ []) taken log written end → InputEnds p limit input due → IsQuiet end
-        → (end ≡ due) ⊎ (end ≡ SessionEnd.NoMemory) }
+    ensures { IsFilled p → (limit : ℕ) (input taken left : List ℕ) (log : List (Call × Answer))
+        (written : List ℕ) (end due : End) → input ≡ taken ++ left
+        → Session p limit (left ≡ []) taken log written end → InputEnds p limit input due
+        → IsQuiet end → (end ≡ due) ⊎ (end ≡ SessionEnd.NoMemory) }
 {}
 
-/// Each input has an end that it decides, if what the session does after a request never hangs on the answers to its calls.
+/// Each input has an end that it decides, if what the session does after a request never hangs on
+/// the answers to its calls.
 pub fn each_input_has_an_end<State, Request, Call, Answer>()
     ghost p: { Protocol State Request Call Answer }
-    ensures { IsFilled p → EndsOneWay p → (limit : ℕ) (input : List ℕ) → (due : End) × InputEnds p limit input due }
+    ensures { IsFilled p → EndsOneWay p → (limit : ℕ) (input : List ℕ) → (due : End)
+        × InputEnds p limit input due }
 {}
 
-/// Where each call is answered by a world that only these calls change, the bytes of an input decide all that a session writes,
-/// unless something fails.
+/// Where each call is answered by a world that only these calls change, the bytes of an input
+/// decide all that a session writes, unless something fails.
 pub fn an_input_decides_the_session<State, Request, Call, Answer, World>()
     ghost p: { Protocol State Request Call Answer × Answers World Call Answer }
-    ensures { IsFilled p.0 → (limit : ℕ) (input taken left : List ℕ) (log : List (Call × Answer)) (written : List ℕ) (end : End) (world last : World)
-        → input ≡ taken ++ left → Session p.0 limit (left ≡ []) taken log written end → IsAnswered p.1 world log last → IsQuiet end → end ≢ SessionEnd.NoMemory
-        → (written ≡ p.0.greeting ++ (transcript p.0 p.1 limit world input).text) × (end ≡ (transcript p.0 p.1 limit world input).end) }
+    ensures { IsFilled p.0 → (limit : ℕ) (input taken left : List ℕ)
+        (log : List (Call × Answer)) (written : List ℕ) (end : End) (world last : World)
+        → input ≡ taken ++ left → Session p.0 limit (left ≡ []) taken log written end
+        → IsAnswered p.1 world log last → IsQuiet end → end ≢ SessionEnd.NoMemory
+        → (written ≡ p.0.greeting ++ (transcript p.0 p.1 limit world input).text)
+        × (end ≡ (transcript p.0 p.1 limit world input).end) }
 {}

@@ -1,4 +1,5 @@
-//! The edge to the outside: sources and sinks of bytes, the feed that hands out a source's bytes, and how a session ends.
+//! The edge to the outside: sources and sinks of bytes, the feed that hands out a source's bytes,
+//! and how a session ends.
 #![tactic(auto)]
 
 mod ends;

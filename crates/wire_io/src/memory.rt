@@ -8,7 +8,8 @@ use quota_units::{Failed, NoMemory};
 use std::alloc::Global;
 use std::marker::Model;
 
-/// A source in memory, which gives at most so many bytes a read and fails the reads that it is told to.
+/// A source in memory, which gives at most so many bytes a read and fails the reads that it is told
+/// to.
 #[derive(Drop)]
 pub struct MemSource {
     bytes: Vec<u8>,
@@ -25,7 +26,13 @@ impl Model for MemSource {
 
     ghost Value = { MemoryInput };
 
-    ghost view = { λ s. record { left = drop s.at s.bytes.items; piece = s.piece; fails = s.fails.items; reads = s.reads; faults = s.faults } };
+    ghost view = { λ s. record {
+      left = drop s.at s.bytes.items;
+      piece = s.piece;
+      fails = s.fails.items;
+      reads = s.reads;
+      faults = s.faults;
+    } };
 
     ghost invariant = { λ s. (s.at ≤ vec_len s.bytes) × (0 < s.piece) };
 }
@@ -36,7 +43,14 @@ impl MemSource {
     /// It fails the reads whose numbers stand in `fails`; the first read has the number 1.
     pub fn new(bytes: Vec<u8>, piece: usize, fails: Vec<u64>) -> MemSource
         requires { 0 < piece }
-        ensures { result ≡ record { left = bytes.items; piece = piece; fails = fails.items; reads = 0; faults = 0 } }
+        ensures { result ≡ record {
+          left = bytes.items;
+          piece = piece;
+          fails = fails.items;
+          reads =
+              0;
+          faults = 0;
+        } }
     {
         MemSource {
             bytes,
@@ -60,7 +74,8 @@ impl Source for MemSource {
         ensures cause { HasCause (IsErr result) self.old.faults self.new.faults }
         ensures fails { IsErr result ↔ FailsRead self.old }
         ensures count { IfOk result (λ n. n ≡ read_count self.old (length into.old)) }
-        ensures after { MatchResult result (λ n. self.new ≡ after_read self.old n) (λ _. self.new ≡ after_failed_read self.old) }
+        ensures after { MatchResult result (λ n. self.new ≡ after_read self.old n)
+            (λ _. self.new ≡ after_failed_read self.old) }
     {
         self.reads = self.reads.saturating_add(1);
         if self.fails.contains(&self.reads) {
@@ -75,7 +90,8 @@ impl Source for MemSource {
     }
 }
 
-/// A sink in memory, which takes at most so many bytes a write, has room for so many, and fails the writes that it is told to.
+/// A sink in memory, which takes at most so many bytes a write, has room for so many, and fails the
+/// writes that it is told to.
 #[derive(Drop)]
 pub struct MemSink {
     bytes: Vec<u8>,
@@ -92,13 +108,22 @@ impl Model for MemSink {
 
     ghost Value = { MemoryOutput };
 
-    ghost view = { λ s. record { written = s.bytes.items; piece = s.piece; room = s.room; fails = s.fails.items; writes = s.writes; faults = s.faults } };
+    ghost view = { λ s. record {
+      written = s.bytes.items;
+      piece = s.piece;
+      room = s.room;
+      fails = s.fails.items;
+      writes = s.writes;
+      faults = s.faults;
+    } };
 
-    ghost invariant = { λ s. (vec_len s.bytes ≤ s.room) × (s.room ≤ vec_capacity s.bytes) × (0 < s.piece) };
+    ghost invariant = { λ s. (vec_len s.bytes ≤ s.room) × (s.room ≤ vec_capacity s.bytes)
+        × (0 < s.piece) };
 }
 
 impl MemSink {
-    /// A sink with room for `room` bytes, which are reserved, so that a write takes no memory. It takes at most `piece` bytes a write.
+    /// A sink with room for `room` bytes, which are reserved, so that a write takes no memory. It
+    /// takes at most `piece` bytes a write.
     ///
     /// It fails the writes whose numbers stand in `fails`; the first write has the number 1.
     ///
@@ -112,7 +137,14 @@ impl MemSink {
         fails: Vec<u64>,
     ) -> Result<MemSink, NoMemory>
         requires { 0 < piece }
-        ensures { IfOk result (λ sink. sink ≡ record { written = []; piece = piece; room = room; fails = fails.items; writes = 0; faults = 0 }) }
+        ensures { IfOk result (λ sink. sink ≡ record {
+          written = [];
+          piece = piece;
+          room = room;
+          fails = fails.items;
+          writes = 0;
+          faults = 0;
+        }) }
     {
         Ok(MemSink {
             bytes: Vec::with_capacity(alloc, room)?,
@@ -140,11 +172,13 @@ impl Sink for MemSink {
     fn write(&mut self, piece: &[u8]) -> Result<usize, Failed>
         ensures bound { IfOk result (λ n. n ≤ length piece.now) }
         ensures some { 0 < length piece.now → IfOk result (λ n. 0 < n) }
-        ensures bytes { WriteAppends (Some self.old.written) (Some self.new.written) result piece.now }
+        ensures bytes { WriteAppends (Some self.old.written)
+            (Some self.new.written) result piece.now }
         ensures cause { HasCause (IsErr result) self.old.faults self.new.faults }
         ensures fails { IsErr result ↔ FailsWrite self.old }
         ensures count { IfOk result (λ n. n ≡ write_count self.old (length piece.now)) }
-        ensures after { MatchResult result (λ n. self.new ≡ after_write self.old piece.now n) (λ _. self.new ≡ after_failed_write self.old) }
+        ensures after { MatchResult result (λ n. self.new ≡ after_write self.old piece.now n)
+            (λ _. self.new ≡ after_failed_write self.old) }
     {
         self.writes = self.writes.saturating_add(1);
         let room = self.room - self.bytes.len();

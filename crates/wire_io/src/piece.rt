@@ -63,7 +63,8 @@ impl Piece {
         self.from += count;
     }
 
-    /// Takes at most so many bytes from the source in place of none, and says how many; 0 of more than 0 at its end.
+    /// Takes at most so many bytes from the source in place of none, and says how many; 0 of more
+    /// than 0 at its end.
     pub fn fill<S: Source>(&mut self, source: &mut S, most: u64) -> Result<usize, Failed>
         requires { self.old ≡ [] }
         ensures most { length self.new ≤ most }

@@ -45,7 +45,8 @@ impl<R: Read> Source for StdSource<R> {
 
 /// A sink over a writer. Each write is flushed, so that its bytes reach the outside.
 ///
-/// It tells what the writer tells, but for bytes that could not be flushed. After a flush that failed each write fails.
+/// It tells what the writer tells, but for bytes that could not be flushed. After a flush that
+/// failed each write fails.
 #[derive(Debug, Drop)]
 pub struct StdSink<W> {
     writer: W,
@@ -56,8 +57,8 @@ pub struct StdSink<W> {
 impl<W: Write> StdSink<W> {
     ghost use Rattle.wire_io.specs.Real.{writer_of, unflushed_of, write_faults_of};
 
-    /// A sink that writes this writer. An `Err` of a write or of its flush is one fault, and so is a write that takes
-    /// nothing of a piece that is not empty.
+    /// A sink that writes this writer. An `Err` of a write or of its flush is one fault, and so is
+    /// a write that takes nothing of a piece that is not empty.
     pub fn new(writer: W) -> StdSink<W>
         ensures writer { writer_of result ≡ writer }
         ensures flushed { unflushed_of result ≡ 0 }
@@ -74,7 +75,8 @@ impl<W: Write> StdSink<W> {
     fn fail(&mut self) -> Failed
         ensures same_writer { writer_of self.new ≡ writer_of self.old }
         ensures same_unflushed { unflushed_of self.new ≡ unflushed_of self.old }
-        ensures counted { write_faults_of self.new ≡ min (write_faults_of self.old + 1) (2 ^ 64 - 1) }
+        ensures counted { write_faults_of self.new
+            ≡ min (write_faults_of self.old + 1) (2 ^ 64 - 1) }
         ensures later { write_faults_of self.old ≤ write_faults_of self.new }
     {
         self.faults = self.faults.saturating_add(1);

@@ -13,7 +13,8 @@ pub trait Source {
     /// How often a read has failed. The count stands still at 2^64 - 1.
     ghost faults: { Self → ℕ };
 
-    /// Takes the first bytes that are left, puts them at the front of the buffer, and says how many they are.
+    /// Takes the first bytes that are left, puts them at the front of the buffer, and says how many
+    /// they are.
     ///
     /// 0 for a buffer that is not empty means the end: no byte is left.
     ///
@@ -34,12 +35,13 @@ pub trait Sink {
     /// How often a write has failed. The count stands still at 2^64 - 1.
     ghost faults: { Self → ℕ };
 
-    /// Takes the first bytes of a piece, and says how many they are: at least one if the piece is not empty.
+    /// Takes the first bytes of a piece, and says how many they are: at least one if the piece is
+    /// not empty.
     ///
     /// # Errors
     ///
-    /// `Failed` if the write failed, which is counted. No byte is taken then. An outside that takes nothing of a piece that
-    /// is not empty fails.
+    /// `Failed` if the write failed, which is counted. No byte is taken then. An outside that takes
+    /// nothing of a piece that is not empty fails.
     fn write(&mut self, piece: &[u8]) -> Result<usize, Failed>
         ensures bound { IfOk result (λ n. n ≤ length piece.now) }
         ensures some { 0 < length piece.now → IfOk result (λ n. 0 < n) }

@@ -172,7 +172,8 @@ fn standings(alloc: Global, account: &Account) -> Result<String, Trouble> {
     Ok(text)
 }
 
-/// The number of calls, and what the keeper has then: the ledger of each root, and the files of each mailbox with their lengths.
+/// The number of calls, and what the keeper has then: the ledger of each root, and the files of
+/// each mailbox with their lengths.
 pub fn close(alloc: Global, account: Account) -> Result<String, Trouble> {
     let calls = account.calls();
     let roots = account.root_count();

@@ -3,7 +3,8 @@ use crate::trouble::Trouble;
 use quota_units::{Limits, Name, number_in};
 use std::alloc::Global;
 
-/// The most bytes of a ledger that are shown whole, and how many are shown of each end of a longer one.
+/// The most bytes of a ledger that are shown whole, and how many are shown of each end of a longer
+/// one.
 const LONG: usize = 100;
 
 const SHOWN: usize = 24;
@@ -61,7 +62,8 @@ pub fn ledger_of(alloc: Global, word: &[u8]) -> Result<Vec<u8>, Trouble> {
     Ok(bytes)
 }
 
-/// The bytes of a ledger on one line, with `|` for each LF; of a long one its length, its first bytes and its last.
+/// The bytes of a ledger on one line, with `|` for each LF; of a long one its length, its first
+/// bytes and its last.
 pub fn shown_ledger(alloc: Global, bytes: &[u8]) -> Result<String, Trouble> {
     if bytes.len() <= LONG {
         return shown_bytes(alloc, bytes);

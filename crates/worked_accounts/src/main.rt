@@ -1,4 +1,5 @@
-//! Accounts over keepers in memory, worked line by line: each line of the input is done, and printed with what came of it.
+//! Accounts over keepers in memory, worked line by line: each line of the input is done, and
+//! printed with what came of it.
 #![tactic(auto)]
 
 mod account;
@@ -15,7 +16,8 @@ use std::io::{self, Read};
 use store::Store;
 use trouble::Trouble;
 
-/// What stands between two lines: a store that is described, or the account that was opened over it.
+/// What stands between two lines: a store that is described, or the account that was opened over
+/// it.
 #[derive(Drop)]
 struct Workbench {
     store: Store,

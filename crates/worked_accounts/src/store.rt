@@ -10,7 +10,8 @@ use std::alloc::Global;
 /// The second at which accounts are opened.
 const EPOCH: u64 = 1700000000;
 
-/// The files of a store, the ledger of root 0, the calls that fail, and what the account is opened with.
+/// The files of a store, the ledger of root 0, the calls that fail, and what the account is opened
+/// with.
 #[derive(Drop)]
 pub struct Store {
     rows: Vec<StoreRow>,
@@ -111,7 +112,8 @@ impl Store {
         Ok(())
     }
 
-    /// The account over this store. Where no root was described it has one of the empty name, without limits.
+    /// The account over this store. Where no root was described it has one of the empty name,
+    /// without limits.
     pub fn open(mut self, alloc: Global) -> Result<AccountState<MemKeeper>, Trouble> {
         if self.roots.is_empty() {
             let limits = limits_of(b"-", b"-")?;
