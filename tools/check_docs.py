@@ -95,8 +95,8 @@ def public_words(crate):
             if os.path.isdir(os.path.join(TOP, "crates", path)):
                 imported.update(word.split(" as ")[-1].strip() for word in names.split(","))
         for contract in public_contracts(text, shown):
-            for clause in re.findall(r"(?:ensures|requires)\b(.*)", contract):
-                words.update(word for word in re.findall(r"[\w-]+", clause) if word in imported)
+            clauses = re.split(r"\b(?:ensures|requires)\b", contract, maxsplit=1)[1:]
+            words.update(word for clause in clauses for word in re.findall(r"[\w-]+", clause) if word in imported)
     return words
 
 

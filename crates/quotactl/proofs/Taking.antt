@@ -58,7 +58,7 @@ module _ (left left' : Option (List ℕ)) (waiting waiting' : List ℕ) (taken t
     comes = record {
       come = given;
       unread = waiting';
-      coming = inr (line_request (command_in true given), spells_line given line le);
+      part_or_all = inr (line_request (command_in true given), spells_line given line le);
       rest_is = refl;
       prompted = refl;
       begun = a.begun;
@@ -89,7 +89,7 @@ module _ (left left' : Option (List ℕ)) (waiting waiting' : List ℕ) (taken t
     hands = hands;
     counts = counts;
     owned = owns_same account;
-    comes = record { come = given; unread = waiting'; coming = inr (too_long, spells_long given long.0 long.1); rest_is = refl; prompted = refl; begun = inl refl };
+    comes = record { come = given; unread = waiting'; part_or_all = inr (too_long, spells_long given long.0 long.1); rest_is = refl; prompted = refl; begun = inl refl };
   }
 
   -- where the feed ended below the limit, or at it
@@ -133,4 +133,4 @@ module _ (left left' : Option (List ℕ)) (waiting waiting' : List ℕ) (taken t
           subst (λ w. Ends imap input_limit (IsAtEnd left') tt at (given ++ w) [] [] (end_at Limit at come)) (sym h.1) (omega (arith, all, counts, h.2, none, same), begun_waits given h.0)
       by_end FeedNoMemory b l n m =
           let h = m refl in
-          record { come = given; unread = waiting'; coming = inl (begun_rest given h.0); rest_is = refl; prompted = refl; begun = inl refl }
+          record { come = given; unread = waiting'; part_or_all = inl (begun_rest given h.0); rest_is = refl; prompted = refl; begun = inl refl }

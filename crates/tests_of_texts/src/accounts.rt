@@ -192,37 +192,41 @@ recipient  => None";
 
 /// The file `accounts.toml` at the top of the repository.
 const EXAMPLE: &str =
-    "# The accounts of a mail host. Names of keys and the ranges of their values are said beside them; other keys are ignored.
+    "# The accounts of a mail host. The crate accounts_file reads this file (crates/accounts_file); the
+# commands that will take it, `quotactl imap` and `quotad serve`, are not built yet. Each key's
+# meaning and range stands beside it; unknown keys are ignored.
 
 # The ports of the listeners, 1 to 65535. A listener without a port is not opened.
 imap = 1143
 jmap = 8080
 policy = 10031
 
-# How many workers each listener has: 1 to 16, and 2 where this is left out.
+# The number of workers of each listener: 1 to 16; 2 if left out.
 workers = 2
 
-# One table for each account: 1 to 32. Name, password and token must be given.
+# One table for each account: 1 to 32. Name, password and token are required.
 [[account]]
-# 1 to 64 letters, digits, `_` and `-`, of which `-` is not the first. It is the JMAP id too.
+# 1 to 64 letters, digits, `_` and `-`; `-` is not the first. It is also the JMAP id.
 name = \"ann\"
-# 1 to 64 characters of printing ASCII without the space. The token is for JMAP.
+# 1 to 64 printable ASCII characters other than the space. The token is for JMAP.
 password = \"change-this-password\"
 token = \"change-this-token\"
-# Whether the account may set its limits: false where this is left out.
+# Whether the account may set its limits; false if left out.
 admin = true
-# The most entries of the account's history: 1 to 524288, and 65536 where this is left out; at most 4194304 in all accounts.
+# The most entries of the account's history: 1 to 524288; 65536 if left out. All accounts together
+# have at most 4194304.
 journal = 65536
-# The addresses whose mail the account gets, for the policy listener. Their case plays no part.
+# The addresses whose mail the account gets, for the policy listener. Case is ignored.
 recipients = [\"ann@example.org\", \"postmaster@example.org\"]
-# The mailboxes. INBOX is always there and need not be named.
+# The mailboxes. INBOX always exists and need not be listed.
 mailboxes = [\"INBOX\", \"Lists\", \"Lists.work\", \"Trash\"]
 
-# The account's quota roots, 1 to 4. The first one governs every mailbox but Trash, and has no prefix.
+# The account's quota roots, 1 to 4. The first has no prefix and governs every mailbox but Trash.
 [[account.root]]
-# At most 64 characters of printing ASCII; the empty name where this is left out.
+# At most 64 printable ASCII characters; the empty name if left out.
 name = \"\"
-# The limits: storage in units of 1024 octets, and messages; 1 to 8796093022207. No limit where one is left out.
+# The limits: storage in units of 1024 octets, and messages; 1 to 8796093022207. A limit that is
+# left out does not limit.
 storage = 1048576
 messages = 100000
 
@@ -232,7 +236,7 @@ name = \"lists\"
 prefix = \"Lists\"
 messages = 5000
 
-# The least that an account needs: it has INBOX, and one root without limits.
+# The least that an account needs. It has INBOX, and one root without limits.
 [[account]]
 name = \"bob\"
 password = \"another-password\"

@@ -2,9 +2,10 @@
 ghost use Rattle.std.specs.Prelude.{◌<◌, []};
 ghost use Rattle.account_core.specs.Legality.{HasBytes, MayBeAsked};
 
+use crate::answers::{answer_text, fault_text, totals_text};
 use crate::lines::{limits_of, name_of, number_of, shown_ledger, text_of};
 use crate::trouble::Trouble;
-use account_core::{Call, Reply, StepError};
+use account_core::Call;
 use account_ledger::{AccountState, Standing};
 use keeper::{Keeper, MemKeeper};
 use quota_units::Flags;
@@ -108,15 +109,7 @@ fn serve(alloc: Global, account: &mut Account, call: Call) -> Result<String, Tro
     requires bytes { HasBytes call [] }
 {
     let answer = account.serve(alloc, 0, call, b"");
-    shown(alloc, &answer)
-}
-
-/// An answer, as it is printed.
-fn shown(alloc: Global, answer: &Result<Reply, StepError>) -> Result<String, Trouble> {
-    match answer {
-        Ok(reply) => Ok(format!(in alloc; "{reply:?}")?),
-        Err(fault) => Ok(format!(in alloc; "{fault:?}")?),
-    }
+    answer_text(alloc, &answer)
 }
 
 /// Delivers a message of so many octets, each `x`.
@@ -138,7 +131,7 @@ fn deliver(
         flags: flags_of(flags)?,
     };
     let answer = account.serve(alloc, 0, call, bytes.as_slice());
-    shown(alloc, &answer)
+    answer_text(alloc, &answer)
 }
 
 /// The flags of these letters; `-` is none.
@@ -155,8 +148,8 @@ fn usage(alloc: Global, account: &mut Account, root: &[u8]) -> Result<String, Tr
         return Err(Trouble::NoForm);
     }
     match account.usage(alloc, root as u32) {
-        Ok(totals) => Ok(format!(in alloc; "{totals:?}")?),
-        Err(fault) => Ok(format!(in alloc; "{fault:?}")?),
+        Ok(totals) => totals_text(alloc, totals),
+        Err(fault) => fault_text(alloc, &fault),
     }
 }
 

@@ -1,8 +1,32 @@
-//! Accounts over keepers in memory, worked line by line: each line of the input is done, and
-//! printed with what came of it.
+//! Works accounts over keepers in memory, line by line: each line of the input is done, and printed
+//! with its outcome.
+//!
+//! An empty line, and one that begins with `#`, is printed as it is. Words are separated by one
+//! space. The word `-` is the empty name, no prefix, no limit or no flags.
+//!
+//! Lines that describe a store, before `open`:
+//!
+//! - `store`: an empty store, with the mailboxes INBOX, Lists and Trash and a journal of 1000 entries
+//! - `root NAME PREFIX OCTETS MESSAGES`: one more quota root with these limits; without such a line
+//!   the account has one root of the empty name without limits
+//! - `file MAILBOX NAME`: a message file without octets
+//! - `ledger TEXT`: the ledger of root 0, with `|` for each LF and `_` for each space
+//! - `fail CALL N`: the keeper's Nth `list`, `put`, `rename`, `remove`, `read_ledger`,
+//!   `append_ledger` or `install_ledger` fails
+//! - `journal N`: how many entries the account's history may have
+//!
+//! `open` opens the account over that store, in second 1700000000. Lines that ask it:
+//!
+//! - `deliver MAILBOX OCTETS [FLAGS]`, `check OCTETS`, `remove MAILBOX BASE`,
+//!   `mark MAILBOX BASE FLAGS`, `move FROM BASE TO`, `limits ROOT OCTETS MESSAGES`, `quota ROOT`,
+//!   `roots MAILBOX`, `status MAILBOX`, `begin` (of a scan), `part N`: one call of the account
+//! - `fill N MAILBOX OCTETS`: N such deliveries, of which the last one's answer is printed
+//! - `usage N`: the usage of root N, without an entry; `standings`: whether each root is settled
+//! - `close`: the number of calls, and then each ledger and each file of the store
 #![tactic(auto)]
 
 mod account;
+mod answers;
 mod lines;
 mod store;
 mod trouble;
