@@ -14,7 +14,7 @@ pub record Message : Type 0 where
   pub flags : Flags
 
 pub record Account : Type 0 where
-  -- those of each root, in the order of the roots
+  -- the limits of each root, in the order of the roots
   pub limits : List LimitNumbers
   pub mailboxes : List (List ℕ)
   pub messages : List Message
@@ -22,10 +22,10 @@ pub record Account : Type 0 where
   pub deliveries : ℕ
   -- the second at which the account was opened
   pub epoch : ℕ
-  -- how many deliveries, removals and moves between two mailboxes were made since
+  -- how many deliveries, removals and moves between two mailboxes were made since then
   pub generation : ℕ
 
--- a number of each message that the root counts, added up
+-- the sum of a weight over the messages whose mailboxes the root governs
 abbrev pub counted : RootSpec → (Message → ℕ) → List Message → ℕ
 counted root weight messages = sum_by (λ m. if governs root m.mailbox then weight m else 0) messages
 

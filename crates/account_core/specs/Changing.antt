@@ -10,7 +10,7 @@ use Rattle.account_core.specs.Delivering.{delivered_base}
 use Rattle.account_core.specs.Messages.{named_message, removed, changed, with_flags, with_mailbox}
 use Rattle.account_core.specs.Refusals.{in_mailbox, if_message, over_of, over_in, over_or}
 
--- the answer to a delivery: its number counts the accepted deliveries, from 1 on
+-- the reply to a delivery; its number counts the accepted deliveries, from 1 on
 abbrev pub delivery_reply : List RootSpec → Account → List ℕ → ℕ → Reply
 delivery_reply roots account mailbox octets =
     in_mailbox account mailbox
@@ -25,7 +25,7 @@ delivered_message epoch number mailbox octets flags = record {
   flags = flags;
 }
 
--- the account after a delivery that was answered so: an accepted message stands at the end
+-- the account after a delivery with this reply: an accepted message comes last
 abbrev pub delivered_after : Account → List ℕ → ℕ → Flags → Reply → Account
 delivered_after account mailbox octets flags (Delivered number) = record account {
   messages = account.messages ++ delivered_message account.epoch number mailbox octets flags ∷ [];
@@ -34,12 +34,12 @@ delivered_after account mailbox octets flags (Delivered number) = record account
 }
 delivered_after account mailbox octets flags given = account
 
--- the answer to a call on the message of a mailbox, where it is there
+-- the reply to a call on the message of a mailbox: the given one, if there is such a message
 abbrev pub message_reply : Account → List ℕ → List ℕ → Reply → Reply
 message_reply account mailbox base given =
     in_mailbox account mailbox (if_message (named_message mailbox base account.messages) given)
 
--- the account after a removal that was answered so
+-- the account after a removal with this reply
 abbrev pub removed_after : Account → List ℕ → List ℕ → Reply → Account
 removed_after account mailbox base Removed = record account {
   messages = removed mailbox base account.messages;
@@ -47,33 +47,33 @@ removed_after account mailbox base Removed = record account {
 }
 removed_after account mailbox base given = account
 
--- the account after a mark that was answered so
+-- the account after a mark with this reply
 abbrev pub marked_after : Account → List ℕ → List ℕ → Flags → Reply → Account
 marked_after account mailbox base flags Marked = record account {
   messages = changed mailbox base (with_flags flags) account.messages;
 }
 marked_after account mailbox base flags given = account
 
--- the answer to a move to another mailbox, where the message is there
+-- the reply to a move to another mailbox, if the message exists
 abbrev pub move_between_reply : List RootSpec → Account → List ℕ → List ℕ → List ℕ → Message → Reply
 move_between_reply roots account from base to message =
     if is_some (named_message to base account.messages) then NameTaken
     else over_or (over_of roots account (gaining roots from to) message.octets) Moved
 
--- the answer to a move, where the mailboxes are there
+-- the reply to a move, if the mailboxes exist
 abbrev pub moving_reply : List RootSpec → Account → List ℕ → List ℕ → List ℕ → Option Message
     → Reply
 moving_reply roots account from base to None = NoMessage
 moving_reply roots account from base to (Some message) =
     if bytes_eq from to then Moved else move_between_reply roots account from base to message
 
--- the answer to a move
+-- the reply to a move
 abbrev pub move_reply : List RootSpec → Account → List ℕ → List ℕ → List ℕ → Reply
 move_reply roots account from base to =
     in_mailbox account from (in_mailbox account to
     (moving_reply roots account from base to (named_message from base account.messages)))
 
--- the account after a move that was answered so: the message keeps its place, and a move within a
+-- the account after a move with this reply: the message keeps its place, and a move within a
 -- mailbox changes nothing
 abbrev pub moved_after : Account → List ℕ → List ℕ → List ℕ → Reply → Account
 moved_after account from base to Moved =

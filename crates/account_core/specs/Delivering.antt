@@ -6,7 +6,7 @@ use Rattle.std.specs.Fmt.{decimal}
 abbrev pub delivered_base : ℕ → ℕ → List ℕ
 delivered_base epoch number = decimal epoch ++ codes "." ++ decimal number ++ codes ".quotad"
 
--- two deliveries of an account have different bases
+-- two deliveries of an account have different bases, if their numbers differ and are below 2 ^ 64
 abbrev pub DeliveredBasesDiffer : Type 0
 DeliveredBasesDiffer = (epoch m n : ℕ) → m < 2 ^ 64 → n < 2 ^ 64
     → delivered_base epoch m ≡ delivered_base epoch n → m ≡ n

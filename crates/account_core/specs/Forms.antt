@@ -1,4 +1,4 @@
--- The form of replies: what each call may be answered, whatever the account holds.
+-- The form of replies: which replies each call may get, whatever the account holds.
 use Rattle.std.specs.Prelude.{◌≡◌, ◌<◌, ℕ, Bool, true, false, List, length, map}
 use Rattle.std.specs.List.{All}
 use Rattle.quota_roots.specs.declared.root.RootSpec.{RootSpec}
@@ -10,7 +10,7 @@ use Rattle.account_core.specs.declared.calls.Reply.TheVariants.{NoMailbox, Over,
 use Rattle.account_core.specs.Account.{Account}
 use Rattle.account_core.specs.Machine.{reply_of}
 
--- a reply of the kinds that the call may get
+-- a reply of a kind that the call may get
 abbrev pub is_answer : Call → Reply → Bool
 is_answer (Deliver mailbox octets flags) NoMailbox = true
 is_answer (Deliver mailbox octets flags) (Over root resource) = true
@@ -42,8 +42,8 @@ is_answer (Install generation) (Changed then now) = true
 is_answer (Install generation) (Installed usages) = true
 is_answer call given = false
 
--- the roots that a reply names are there, and the begin of a scan names those that govern each
--- mailbox
+-- each root that a reply names exists, the begin of a scan names the roots that govern each
+-- mailbox, and an install has a usage for each root
 abbrev pub NamesRoots : List RootSpec → List (List ℕ) → Reply → Type 0
 NamesRoots roots mailboxes (Over root resource) = root < length roots
 NamesRoots roots mailboxes (Quota row) = row.root < length roots
@@ -58,7 +58,7 @@ pub record HasForm (roots : List RootSpec) (mailboxes : List (List ℕ)) (call :
   pub kind : is_answer call given ≡ true
   pub names : NamesRoots roots mailboxes given
 
--- The machine's replies have their form.
+-- The machine's replies have the form that their calls need.
 abbrev pub RepliesHaveForm : Type 0
 RepliesHaveForm = (roots : List RootSpec) (account : Account) (call : Call)
     → HasForm roots account.mailboxes call (reply_of roots account call)

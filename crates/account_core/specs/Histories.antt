@@ -1,15 +1,15 @@
--- Histories under several callers: where one begins, what begins it, and which of its entries are a
--- caller's.
+-- Histories under several callers: where a history begins, which entries begin it, and which of its
+-- entries are a caller's.
 use Rattle.std.specs.Prelude.{◌≡◌, ◌<◌, ◌==◌, ℕ, if◌then◌else◌, List, [], ◌∷◌, ◌++◌, Option}
 use Rattle.quota_roots.specs.declared.root.RootSpec.{RootSpec}
 use Rattle.account_core.specs.declared.calls.Entry.{Entry}
 use Rattle.account_core.specs.Account.{Account}
 
--- Where a history begins. The opening account is there where the account's store tells what it
--- holds.
+-- Where a history begins. The opening account is known if the account's store tells contracts what
+-- it holds.
 pub record Origin : Type 0 where
   pub roots : List RootSpec
-  -- the most entries
+  -- the most entries that the history may have
   pub journal : ℕ
   -- the second at which the account was opened
   pub epoch : ℕ

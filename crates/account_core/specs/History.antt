@@ -1,5 +1,5 @@
--- Histories of an account: entries one after another, the account that they make, and what a call
--- is answered after them.
+-- Histories of an account: entries one after another, the account that they make, and the machine's
+-- reply to a call after them.
 use Rattle.std.specs.Prelude.{ℕ, Bool, if◌then◌else◌, List, [], ◌∷◌}
 use Rattle.quota_roots.specs.declared.root.RootSpec.{RootSpec}
 use Rattle.account_core.specs.declared.calls.Call.{Call}
@@ -8,13 +8,13 @@ use Rattle.account_core.specs.declared.calls.Entry.{Entry}
 use Rattle.account_core.specs.Account.{Account}
 use Rattle.account_core.specs.Machine.{reply_of, step}
 
--- what a caller is told: the machine's reply, that the store failed, or that the history is full
+-- what a call comes to: the machine's reply, a failed store, or a full history
 pub data Answer : Type 0 where
   replied : Reply → Answer
   store : Answer
   journal_full : Answer
 
--- the account after an entry; one with fault leaves it
+-- the account after an entry; an entry with fault leaves the account as it was
 abbrev pub account_after : List RootSpec → Account → Entry → Account
 account_after roots account entry = if entry.fault then account else step roots account entry.call
 
@@ -23,7 +23,7 @@ abbrev pub replay : List RootSpec → Account → List Entry → Account
 replay roots account [] = account
 replay roots account (entry ∷ entries) = replay roots (account_after roots account entry) entries
 
--- what the machine answers a call after a history
+-- the machine's reply to a call after a history
 abbrev pub reply : List RootSpec → Account → List Entry → Call → Reply
 reply roots opening history call = reply_of roots (replay roots opening history) call
 

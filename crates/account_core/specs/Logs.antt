@@ -9,16 +9,17 @@ use Rattle.account_core.specs.Forms.{HasForm}
 use Rattle.account_core.specs.History.{Answer, replied, store, journal_full, reply, entry_of}
 use Rattle.account_core.specs.Histories.{Origin, calls_by}
 
--- A reply to a call after these entries. It is the machine's if the opening account is told,
--- and it always has the form of a reply to the call, with roots that are there.
+-- A reply to a call after these entries. If the opening account is known, it is the machine's
+-- reply. It always has the form of a reply to the call, with roots that exist.
 pub record IsReply (origin : Origin) (entries : List Entry) (call : Call)
     (given : Reply) : Type 0 where
   pub machine : IfSome origin.account (λ opening. given ≡ reply origin.roots opening entries call)
   pub mailboxes : List (List ℕ)
   pub form : HasForm origin.roots mailboxes call given
 
--- The call of a caller with this number comes right after these entries, gets its answer, and leads
--- to those: its entry is the next if there is room, and else the history is full.
+-- The call of a caller with this number comes right after these entries, gets this answer, and
+-- leads to the entries that follow: the call's entry is the next one if there is room, and
+-- otherwise the history is full.
 abbrev pub Sits : Origin → ℕ → List Entry → Call → Answer → List Entry → Type 0
 Sits origin number entries call (replied given) entries' =
     (length entries < origin.journal) × IsReply origin entries call given
@@ -37,8 +38,8 @@ AreOthers number (entry ∷ entries) = (entry.caller ≢ number) × AreOthers nu
 abbrev pub AreNone : List Entry → Type 0
 AreNone entries = entries ≡ []
 
--- The calls of a caller, with their answers, take what it has seen of the history from seen to
--- seen'. Before each of them, and after the last, entries of these others may stand.
+-- The caller has seen the entries seen of the history before the calls of this log, and seen' after
+-- them. Before each call, and after the last, there may be entries that meet Others.
 abbrev pub Logged : (List Entry → Type 0) → Origin → ℕ → List Entry → List (Call × Answer)
     → List Entry → Type 0
 Logged Others origin number seen [] seen' =
@@ -48,7 +49,7 @@ Logged Others origin number seen ((call, answer) ∷ log) seen' =
     × Sits origin number (seen ++ others) call answer next
     × Logged Others origin number next log seen'
 
--- the entries of a caller's calls; a call that the full history refused has none
+-- the entries of a caller's calls; a call that a full history refused has none
 abbrev pub entries_of : ℕ → List (Call × Answer) → List Entry
 entries_of number [] = []
 entries_of number ((call, replied given) ∷ log) = entry_of number call false ∷ entries_of number log
@@ -74,7 +75,8 @@ LogsJoin =
     → Logged (AreOthers number) origin number first (log ++ more) last
     × (entries_of number (log ++ more) ≡ entries_of number log ++ entries_of number more)
 
--- What a caller has seen of its own grows by the entries of its log, and by no other.
+-- The caller's own entries, among those that it has seen, grow by the entries of its log, and by no
+-- other.
 abbrev pub LogsAreTheCallersOwn : Type 0
 LogsAreTheCallersOwn =
     (origin : Origin) (number : ℕ) (seen seen' : List Entry) (log : List (Call × Answer))

@@ -1,4 +1,4 @@
--- The account machine: what each call is answered, and the account after it.
+-- The account machine: its reply to each call, and the account after the call.
 use Rattle.std.specs.Prelude.{ℕ, ◌+◌, List, [], ◌∷◌, Option, Some, None, bytes_eq, codes, find, filter, map, set}
 use Rattle.quota_units.specs.Limiting.{LimitNumbers}
 use Rattle.quota_roots.specs.declared.root.RootSpec.{RootSpec}
@@ -24,7 +24,7 @@ row_of account number root limits = record {
   limits = limits;
 }
 
--- each root with its row, numbered from this number on
+-- each root with its row; the numbers of the roots begin at this one
 abbrev pub rows_from : Account → ℕ → List RootSpec → List LimitNumbers → List (RootSpec × RootRow)
 rows_from account number [] limits = []
 rows_from account number (root ∷ roots) [] = []
@@ -42,7 +42,7 @@ abbrev pub quota_reply : Option (RootSpec × RootRow) → Reply
 quota_reply None = NoRoot
 quota_reply (Some (root, row)) = Quota row
 
--- the row after the change
+-- the root's row, with the new limits
 abbrev pub limits_reply : LimitNumbers → Option (RootSpec × RootRow) → Reply
 limits_reply limits None = NoRoot
 limits_reply limits (Some (root, row)) = LimitsSet (record row { limits = limits })
@@ -52,7 +52,7 @@ abbrev pub governing_rows : List RootSpec → Account → List ℕ → List Root
 governing_rows roots account mailbox =
     map (λ x. x.1) (filter (λ x. governs x.0 mailbox) (rows roots account))
 
--- what the account answers
+-- the reply of the account to a call
 abbrev pub reply_of : List RootSpec → Account → Call → Reply
 reply_of roots account (Deliver mailbox octets flags) = delivery_reply roots account mailbox octets
 reply_of roots account (Check octets) = over_or (over_in roots account (codes "INBOX") octets) Fits
@@ -67,7 +67,7 @@ reply_of roots account ScanBegin = begun_reply roots account
 reply_of roots account (ScanPart index) = part_reply account index
 reply_of roots account (Install generation) = install_reply roots account generation
 
--- the limits of each root, where the root at this place has these now
+-- the limits of all roots, after the root at this place was given these limits
 abbrev pub limits_after : Option ℕ → LimitNumbers → List LimitNumbers → List LimitNumbers
 limits_after None limits all = all
 limits_after (Some at) limits all = set all at limits

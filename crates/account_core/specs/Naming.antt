@@ -1,4 +1,4 @@
--- When a mailbox and a base name one message alone.
+-- When no two messages of a mailbox have the same base.
 use Rattle.std.specs.Prelude.{◌≡◌, ◌<◌, ◌≤◌, ◌+◌, ◌^◌, ℕ, List, length}
 use Rattle.quota_roots.specs.declared.root.RootSpec.{RootSpec}
 use Rattle.account_core.specs.declared.calls.Entry.{Entry}
@@ -17,8 +17,9 @@ AreUnused account =
     (number : ℕ) → account.deliveries < number → number < 2 ^ 64 → (mailbox : List ℕ)
     → how_many mailbox (delivered_base account.epoch number) account.messages ≡ 0
 
--- Where no mailbox has a base twice and no message has the base of a delivery to come, none has a
--- base twice after any history.
+-- If at the opening no mailbox has a base twice and no message has the base of a delivery yet to
+-- come, then no mailbox has a base twice after any history. The deliveries at the opening and the
+-- entries must be fewer than 2 ^ 64 together.
 abbrev pub NamesStayApart : Type 0
 NamesStayApart =
     (roots : List RootSpec) (opening : Account) (history : List Entry)

@@ -8,7 +8,7 @@ use Rattle.account_core.specs.Legality.{AreServed}
 use Rattle.account_core.specs.Naming.{AreApart, AreUnused}
 
 -- What holds of an account after this number of entries: the sums over its messages are bounded,
--- and a mailbox and a base name one message alone.
+-- and no two messages of a mailbox have the same base.
 pub record IsOrderly (entries : ℕ) (account : Account) : Type 0 where
   -- At the opening there are at most 2 ^ 60 octets and 2 ^ 20 messages. Each entry adds at most one
   -- message, of at most 67108864 octets.

@@ -1,4 +1,4 @@
--- What refuses a call: a mailbox or a message that is not there, and a root that would be over a
+-- What refuses a call: a mailbox or a message that does not exist, and a root that would be over a
 -- limit.
 use Rattle.std.specs.Prelude.{ℕ, Bool, List, Option, Some, None, bytes_eq, map, if◌then◌else◌}
 use Rattle.std.specs.List.{list_any}
@@ -14,11 +14,11 @@ use Rattle.account_core.specs.Account.{Account, Message, usage}
 abbrev pub has_mailbox : Account → List ℕ → Bool
 has_mailbox account name = list_any (λ mailbox. bytes_eq mailbox name) account.mailboxes
 
--- this answer, where the account has the mailbox
+-- the given reply, if the account has the mailbox
 abbrev pub in_mailbox : Account → List ℕ → Reply → Reply
 in_mailbox account mailbox given = if has_mailbox account mailbox then given else NoMailbox
 
--- this answer, where there is the message
+-- the given reply, if there is a message
 abbrev pub if_message : Option Message → Reply → Reply
 if_message None given = NoMessage
 if_message (Some message) given = given
@@ -27,12 +27,12 @@ if_message (Some message) given = given
 abbrev pub usages : List RootSpec → Account → List Totals
 usages roots account = map (λ root. usage root account) roots
 
--- the first of these roots that a message of so many octets does not fit, and the resource
+-- the first of these roots that a message of this size does not fit, and the resource
 abbrev pub over_of : List RootSpec → Account → List ℕ → ℕ → Option (ℕ × Resource)
 over_of roots account numbers octets =
     first_over account.limits (usages roots account) numbers octets
 
--- the same among the roots that govern the mailbox
+-- the first such root among those that govern the mailbox
 abbrev pub over_in : List RootSpec → Account → List ℕ → ℕ → Option (ℕ × Resource)
 over_in roots account mailbox octets = over_of roots account (governing roots mailbox) octets
 

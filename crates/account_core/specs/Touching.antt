@@ -17,7 +17,7 @@ use Rattle.account_core.specs.History.{account_after}
 abbrev pub QuotaObject : Type 0
 QuotaObject = ℕ × Resource
 
--- the limit of an object (hardLimit): that of the root, if it is set
+-- the limit of an object (hardLimit): the root's limit, if it is set
 abbrev pub limit_of : Account → QuotaObject → Option ℕ
 limit_of account (root, Messages) = (limits_at account.limits root).count
 limit_of account (root, Storage) = (limits_at account.limits root).octets
@@ -36,7 +36,7 @@ all_objects roots =
 abbrev pub is_present : Account → QuotaObject → Bool
 is_present account object = is_some (limit_of account object)
 
--- the objects that are present, in that order
+-- the objects that are present, in the order of all objects
 abbrev pub objects_of : List RootSpec → Account → List QuotaObject
 objects_of roots account = filter (is_present account) (all_objects roots)
 
@@ -63,7 +63,8 @@ differs roots before after object =
 abbrev pub touched : List RootSpec → Account → Account → List QuotaObject
 touched roots before after = filter (differs roots before after) (all_objects roots)
 
--- the objects that an entry touches: those that differ before and after it
+-- the objects that an entry touches: those that differ between the account before it and the
+-- account after it
 abbrev pub touched_by : List RootSpec → Account → Entry → List QuotaObject
 touched_by roots account entry = touched roots account (account_after roots account entry)
 

@@ -15,7 +15,7 @@ use Rattle.account_core.specs.History.{replay}
 abbrev pub are_housed : Account → Bool
 are_housed account = list_all (λ m. has_mailbox account m.mailbox) account.messages
 
--- the parts of the mailboxes that the root governs, added up
+-- the sum of the parts of the mailboxes that the root governs
 abbrev pub parts_of : RootSpec → (Message → ℕ) → Account → ℕ
 parts_of root weight account = sum_by (λ mailbox.
     if governs root mailbox then sum_in mailbox weight account.messages else 0) account.mailboxes
@@ -26,8 +26,8 @@ whole_scan root account = record {
   count = parts_of root (λ m. 1) account;
 }
 
--- Where the mailboxes are different and each message was in one of them at the opening, the parts
--- add up to the usage, after any history.
+-- If the mailboxes are different and each message was in one of them at the opening, the parts add
+-- up to the usage, after any history.
 abbrev pub WholeScanIsUsage : Type 0
 WholeScanIsUsage =
     (roots : List RootSpec) (opening : Account) (history : List Entry)

@@ -1,4 +1,4 @@
--- Worked accounts of one root, and what the machine answers there.
+-- Worked accounts of one root, and the machine's replies there.
 use Rattle.std.specs.Prelude.{◌≡◌, ℕ, false, List, [], ◌∷◌, Option, Some, None, codes}
 use Rattle.quota_units.specs.Flagging.{flags_among}
 use Rattle.quota_units.specs.declared.resource.Resource.TheVariants.{Storage}
@@ -40,7 +40,7 @@ worked limit messages = record {
 abbrev pub made : Call → Entry
 made call = entry_of 0 call false
 
--- an account that is full with the one message of INBOX
+-- an account that the one message of INBOX fills
 abbrev pub full : Account
 full = worked (Some 1024) (plain_message (codes "Trash") (codes "7.mx") 1
     ∷ plain_message (codes "INBOX") (codes "8.mx") 1024 ∷ [])
@@ -51,8 +51,8 @@ out_of_trash = Move (codes "Trash") (codes "7.mx") (codes "INBOX")
 abbrev pub into_trash : Call
 into_trash = Move (codes "INBOX") (codes "8.mx") (codes "Trash")
 
--- a move out of Trash is looked at like a delivery, one into it frees, and one within a mailbox is
--- none
+-- a move out of Trash must fit like a delivery, a move into Trash frees octets, and a move within a
+-- mailbox needs no room
 pub record MovesAreAnswered : Type 0 where
   pub too_much : reply one_root full [] out_of_trash ≡ Over 0 Storage
   pub freed : reply one_root full (made out_of_trash ∷ []) into_trash ≡ Moved

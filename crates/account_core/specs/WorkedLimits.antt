@@ -1,4 +1,4 @@
--- Worked accounts with limits, and what the machine answers there to deliveries, checks, changes of
+-- Worked accounts with limits, and the machine's replies there to deliveries, checks, changes of
 -- limits, and questions on roots.
 use Rattle.std.specs.Prelude.{◌≡◌, ℕ, true, List, [], ◌∷◌, Option, Some, None, codes}
 use Rattle.quota_units.specs.Limiting.{LimitNumbers}
@@ -14,7 +14,7 @@ use Rattle.account_core.specs.Delivering.{delivered_base}
 use Rattle.account_core.specs.History.{replay, reply, entry_of}
 use Rattle.account_core.specs.Worked.{plain_message, worked_root, one_root, worked, made}
 
--- a message of so many octets, without flags, for this mailbox
+-- a message of this number of octets, without flags, for this mailbox
 abbrev pub delivery : List ℕ → ℕ → Call
 delivery mailbox octets = Deliver mailbox octets (flags_among [])
 
@@ -31,13 +31,13 @@ root_row root octets count limits = record {
   limits = limits;
 }
 
--- an account of 1024 octets that has no message
+-- an account with a limit of 1024 octets and no message
 abbrev pub empty : Account
 empty = worked (Some 1024) []
 
--- A message may take a root up to its limit and no further; a mailbox that no root governs has no
--- limit; a delivery that was refused or that failed counts nowhere; and an accepted one has its
--- number in its name, and its flags.
+-- A message may take a root up to its limit and no further. A mailbox that no root governs has no
+-- limit. A delivery that was refused or that failed counts nowhere. An accepted delivery has its
+-- number in its name, and keeps its flags.
 pub record DeliveriesAreAnswered : Type 0 where
   pub whole : reply one_root empty [] (delivery (codes "INBOX") 1024) ≡ Delivered 1
   pub above : reply one_root empty [] (delivery (codes "INBOX") 1025) ≡ Over 0 Storage
@@ -61,22 +61,22 @@ pub record DeliveriesAreAnswered : Type 0 where
   pub flagged : reply one_root empty (made (Deliver (codes "INBOX") 7 (flags_among (codes "ST")))
       ∷ []) (StatusCall (codes "INBOX")) ≡ Status 1 0 1 7 7
 
--- an account of 2048 octets that has half of them
+-- an account with a limit of 2048 octets, which uses half of them
 abbrev pub half_full : Account
 half_full = worked (Some 2048) (plain_message (codes "INBOX") (codes "1.mx") 1024 ∷ [])
 
--- a check is answered by what INBOX would take, and takes nothing
+-- a check's reply says whether INBOX would take the message; the check itself takes nothing
 pub record ChecksAreAnswered : Type 0 where
   pub over : reply one_root half_full [] (Check 2000) ≡ Over 0 Storage
   pub fits : reply one_root half_full [] (Check 1024) ≡ Fits
   pub kept : reply one_root half_full (made (Check 1024) ∷ []) (Check 1024) ≡ Fits
 
--- two roots: that one, and one for the mailbox Lists and those below it
+-- two roots: the one above, and one for the mailbox Lists and those below it
 abbrev pub two_roots : List RootSpec
 two_roots = worked_root ∷ (record { name = codes "lists"; prefix = Some (codes "Lists") }) ∷ []
 
--- an account of these, with 20 octets and 1 message for the first root, and 10 octets for the
--- second
+-- an account of these two roots, with limits of 20 octets and 1 message for the first root, and 10
+-- octets for the second
 abbrev pub two_limits : Account
 two_limits = record {
   limits = limited (Some 20) (Some 1) ∷ limited (Some 10) None ∷ [];
@@ -87,8 +87,8 @@ two_limits = record {
   generation = 0;
 }
 
--- the first root in order is named, and of it storage before messages; the roots of a mailbox are
--- told whether it exists or not
+-- a refusal names the first root that would be over, and storage before messages if both would be;
+-- the roots of a mailbox are listed even if the mailbox does not exist
 pub record RootsAreNamed : Type 0 where
   pub second : reply two_roots two_limits [] (delivery (codes "Lists") 15) ≡ Over 1 Storage
   pub first : reply two_roots two_limits (made (delivery (codes "INBOX") 5) ∷ [])
@@ -106,12 +106,12 @@ pub record RootsAreNamed : Type 0 where
   pub beside : reply two_roots two_limits [] (RootsCall (codes "Listsa"))
       ≡ Roots (root_row 0 0 0 (limited (Some 20) (Some 1)) ∷ [])
 
--- the change of the limits of a root to these
+-- a change of the limits of this root to these limits
 abbrev pub change : List ℕ → Option ℕ → Option ℕ → Call
 change root octets count = SetLimits root (limited octets count)
 
--- Limits that a change does not list are removed, those of other roots stay, and a usage may be
--- above the new ones.
+-- A change removes the limits that it does not list. The limits of other roots stay, and a usage
+-- may be above the new limits.
 pub record LimitsAreAnswered : Type 0 where
   pub told : reply one_root (worked (Some 524288) []) [] (QuotaCall [])
       ≡ Quota (root_row 0 0 0 (limited (Some 524288) None))

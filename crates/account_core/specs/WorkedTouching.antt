@@ -13,7 +13,7 @@ use Rattle.account_core.specs.Touching.{objects_of, touched_by, version}
 abbrev pub one_message : Account
 one_message = record two_limits { messages = plain_message (codes "INBOX") (codes "1.mx") 10 ∷ [] }
 
--- two deliveries, of which one goes to Trash, a mark, and a limit that is removed and set again
+-- two deliveries, one of them to Trash, a mark, and a limit that is removed and set again
 abbrev pub five_entries : List Entry
 five_entries =
     made (delivery (codes "INBOX") 7) ∷ made (delivery (codes "Trash") 8) ∷ marked (codes "S")

@@ -5,8 +5,8 @@ ghost use Rattle.account_core.specs.Histories.{Origin};
 /// A value that stands for a history of an account. It names the history for contracts, and has no
 /// method.
 ///
-/// The members are where the history begins, that is what the account was opened with, and its
-/// entries since.
+/// Its members are where the history begins, that is what the account was opened with, and the
+/// entries since then.
 pub trait Booked {
     ghost origin: { Self → Origin };
 

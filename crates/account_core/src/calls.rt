@@ -9,29 +9,29 @@ use thiserror::Error;
 /// What an account is asked.
 #[derive(Debug, Drop)]
 pub enum Call {
-    /// A message of so many octets, with these flags, for the mailbox of this name.
+    /// A message of `octets` octets, with these flags, for the mailbox of this name.
     Deliver {
         mailbox: Name,
         octets: u64,
         flags: Flags,
     },
-    /// Whether INBOX would take a message of so many octets.
+    /// Whether INBOX would take a message of `octets` octets.
     Check {
         octets: u64,
     },
-    /// The message that the mailbox and the base name is taken away. A mailbox and a base name the
-    /// first message that has both.
+    /// Removes the message with this mailbox and base. If several messages have both, the call is
+    /// for the first of them.
     Remove {
         mailbox: Name,
         base: Name,
     },
-    /// The message that the mailbox and the base name has these flags from now on.
+    /// Gives these flags to the message with this mailbox and base.
     Mark {
         mailbox: Name,
         base: Name,
         flags: Flags,
     },
-    /// The message that the mailbox and the base name goes to another mailbox.
+    /// Moves the message with the mailbox `from` and this base to the mailbox `to`.
     Move {
         from: Name,
         base: Name,
@@ -41,7 +41,7 @@ pub enum Call {
     Quota {
         root: Name,
     },
-    /// The root of this name has these limits from now on; those that are not set here are removed.
+    /// Sets the limits of the root of this name. Limits that are not set here are removed.
     SetLimits {
         root: Name,
         limits: Limits,
@@ -55,13 +55,13 @@ pub enum Call {
     Status {
         mailbox: Name,
     },
-    /// A scan of the account begins.
+    /// Begins a scan of the account.
     ScanBegin,
-    /// What the messages of the mailbox at this place, from 0 on, add up to.
+    /// How many octets and messages the mailbox at this place has. Places count from 0.
     ScanPart {
         index: u32,
     },
-    /// The totals of a scan that was begun at this generation are the usages.
+    /// Installs the totals of a scan that was begun at this generation as the usages.
     Install {
         generation: u64,
     },
@@ -76,7 +76,7 @@ pub struct RootRow {
     pub limits: Limits,
 }
 
-/// What the account machine answers.
+/// The account machine's reply to a call.
 #[derive(Debug, Drop)]
 pub enum Reply {
     /// The account has no mailbox of that name.
@@ -86,7 +86,7 @@ pub enum Reply {
         root: u32,
         resource: Resource,
     },
-    /// The message was accepted, as the delivery of this number, from 1 on.
+    /// The message was accepted. `number` is the number of its delivery, from 1 on.
     Delivered {
         number: u64,
     },
@@ -98,9 +98,9 @@ pub enum Reply {
     Removed,
     /// The message has these flags.
     Marked,
-    /// The mailbox that the message was to go to has a message of that base.
+    /// The mailbox that the message would move to has a message of that base.
     NameTaken,
-    /// The message is in the mailbox that it was to go to.
+    /// The message is in the mailbox that it moved to.
     Moved,
     /// No root has that name.
     NoRoot,
@@ -110,8 +110,8 @@ pub enum Reply {
     LimitsSet(RootRow),
     /// The roots that govern the mailbox, in order.
     Roots(RootRows),
-    /// The number of the mailbox's messages, of those that lack the flag S, and of those that have
-    /// the flag T; the octets of the latter, and those of all.
+    /// How many messages the mailbox has, how many of them lack the flag S, and how many have the
+    /// flag T; the octets of those with the flag T, and the octets of all.
     Status {
         messages: u64,
         unseen: u64,
@@ -119,8 +119,8 @@ pub enum Reply {
         deleted_octets: u64,
         octets: u64,
     },
-    /// The generation: how many deliveries, removals and moves between two mailboxes were made; and
-    /// the roots that govern each mailbox, in the order of the mailboxes.
+    /// The generation, that is how many deliveries, removals and moves between two mailboxes were
+    /// made; and the roots that govern each mailbox, in the order of the mailboxes.
     Begun {
         generation: u64,
         sets: RootSets,
@@ -133,19 +133,19 @@ pub enum Reply {
         octets: u64,
         count: u64,
     },
-    /// The messages changed since the scan was begun: its generation then, and the generation now.
+    /// The messages changed after the scan was begun: the generation then, and the generation now.
     Changed {
         then: u64,
         now: u64,
     },
-    /// The scan's totals are the usages, of each root in order.
+    /// The scan's totals are the usages now: one for each root, in order.
     Installed {
         usages: TotalsList,
     },
 }
 
-/// One call in the history of an account: who made it, and whether a fault of the store took its
-/// effect.
+/// One call in the history of an account: who made it, and whether it had no effect because the
+/// store had a fault.
 #[derive(Debug, Drop)]
 pub struct Entry {
     pub caller: u32,
@@ -156,13 +156,13 @@ pub struct Entry {
 /// Why an account gave no reply.
 #[derive(Clone, Copy, Debug, PartialEq, Eq, Error)]
 pub enum StepError {
-    /// There was no memory. The history is as before.
+    /// Memory ran out. The history is as before.
     #[error("out of memory")]
     NoMemory,
-    /// The store failed. The history has the call's entry, with fault.
+    /// The store failed. The history has an entry of the call, with fault.
     #[error("the store is unavailable")]
     Store,
-    /// The history holds as many entries as it may, which is this number.
+    /// The history has `limit` entries already, the most that it may have.
     #[error("the journal is full at {limit} entries")]
     JournalFull { limit: u32 },
 }

@@ -9,7 +9,7 @@ use std::alloc::Global;
 ///
 /// # Errors
 ///
-/// There was no memory.
+/// Memory ran out.
 #[tactic(auto, using(crate::proofs::DeliveredLemmas::base_is, crate::proofs::DeliveredLemmas::base_fits))]
 pub fn delivered_base(alloc: Global, epoch: u64, number: u64) -> Result<Name, NoMemory>
     ensures { IfOk result (λ name. name ≡ delivered_base epoch number) }
@@ -22,7 +22,7 @@ pub fn delivered_base(alloc: Global, epoch: u64, number: u64) -> Result<Name, No
     }
 }
 
-/// Two deliveries of an account have different bases.
+/// Two deliveries of an account have different bases, if their numbers differ and are below 2^64.
 #[tactic(auto, using(crate::proofs::DeliveredLemmas::bases_differ))]
 pub fn delivered_bases_differ()
     ensures { DeliveredBasesDiffer }

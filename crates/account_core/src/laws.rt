@@ -14,77 +14,79 @@ pub fn no_accepted_message_breaks_a_limit()
     ensures { NoneBroken }
 {}
 
-/// A delivery and a check are answered that a root would be over its limit exactly where the
+/// The machine answers `Over` to a delivery to a mailbox that exists, or to a check, exactly if the
 /// message does not fit.
 pub fn over_exactly_where_a_message_does_not_fit()
     ensures { OverWhereNoFit }
 {}
 
-/// A message that is moved breaks no limit of a root that governs the mailbox it goes to and not
-/// the one it comes from, in any history.
+/// A moved message breaks no limit of a root that governs the target mailbox and not the source, in
+/// any history.
 pub fn no_moved_message_breaks_a_limit()
     ensures { NoneBrokenByMoves }
 {}
 
-/// A move is answered that a root would be over its limit exactly where nothing but such a limit
-/// keeps the message from the mailbox, and it does not fit.
+/// The machine answers `Over` to a move exactly if the message does not fit, and nothing but a
+/// limit keeps it from the target mailbox.
 pub fn a_move_is_over_exactly_where_the_message_does_not_fit()
     ensures { MoveOverWhereNoFit }
 {}
 
-/// The generation that the machine answers with is the number of deliveries, removals and moves
-/// between two mailboxes in the history.
+/// The generation that the machine answers with is the generation at the opening, plus the number
+/// of deliveries, removals and moves between two mailboxes in the history.
 pub fn the_generation_counts_the_changes()
     ensures { GenerationIsCounted }
 {}
 
-/// Where a history begins with another of the same generation, both leave the same messages but for
-/// their flags, and the same usage of every root.
+/// If a history has a prefix of the same generation, both leave the same messages but for their
+/// flags, and the same usage of every root.
 pub fn equal_generations_have_equal_usages()
     ensures { EqualGenerationEqualUsage }
 {}
 
-/// A mailbox and a base name one message at most, in any history, where they did when the account
-/// was opened.
+/// No two messages of a mailbox have the same base, in any history. This holds if no two had when
+/// the account was opened, no message then had the base of a delivery yet to come, and the
+/// deliveries at the opening and the entries are fewer than 2^64 together.
 pub fn names_stay_apart()
     ensures { NamesStayApart }
 {}
 
 /// Suppose that an account is opened with at most 2^60 octets and 2^20 messages, no delivery or
-/// change is counted yet, a mailbox and a base name one message at most, and no message has the
+/// change is counted yet, no two messages of a mailbox have the same base, and no message has the
 /// base of a delivery. After n entries, fewer than 2^63, whose messages have at most 67108864
 /// octets each, the account has at most 2^60 + 67108864 n octets, 2^20 + n messages, n deliveries
-/// and n changes, and a mailbox and a base still name one message at most.
+/// and n changes, and still no two messages of a mailbox have the same base.
 pub fn accounts_stay_orderly()
     ensures { AccountsStayOrderly }
 {}
 
-/// The parts of the mailboxes that a root governs add up to its usage, in any history, where the
+/// The parts of the mailboxes that a root governs add up to its usage, in any history, if the
 /// mailboxes are different and each message was in one of them when the account was opened.
 pub fn whole_scans_are_usages()
     ensures { WholeScanIsUsage }
 {}
 
-/// The machine's replies are of the kinds that their calls may get, and the roots that they name
-/// are there.
+/// Each reply of the machine is of a kind that its call may get, and the roots that the reply names
+/// exist.
 pub fn replies_have_their_form()
     ensures { RepliesHaveForm }
 {}
 
-/// The calls of a caller that were logged, and those that were logged after them, are one log.
+/// Two logs of a caller, one after the other, are one log.
 pub fn logs_join()
     ensures { LogsJoin }
 {}
 
-/// The entries of a caller's log are those that were added to its own, in their order.
+/// A caller's own entries, among those that it has seen, grow by the entries of its log, in their
+/// order.
 pub fn logs_are_the_callers_own()
     ensures { LogsAreTheCallersOwn }
 {}
 
-/// Worked accounts: moves out of Trash, into it and within a mailbox; messages that are moved,
-/// marked, removed and counted; scans that are begun, made in parts, and installed or refused;
-/// deliveries and checks up to a limit and above it; the root and the resource that a refusal
-/// names; and limits that are changed.
+/// Worked accounts and the machine's replies: moves out of Trash, into it and within a mailbox;
+/// messages that are moved, marked, removed and counted; scans that are begun, made in parts, and
+/// installed or refused; deliveries and checks up to a limit and above it; the root and the
+/// resource that a refusal names; and limits that are changed.
 pub fn worked_accounts_are_answered_so()
     ensures moves { MovesAreAnswered }
     ensures counts { MessagesAreCounted }

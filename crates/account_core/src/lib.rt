@@ -1,4 +1,4 @@
-//! The account machine: what an account is, what its calls are answered, and the history that its
+//! The account machine: what an account is, what it replies to each call, and the history that its
 //! entries make.
 #![tactic(auto)]
 

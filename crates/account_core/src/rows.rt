@@ -19,7 +19,7 @@ impl Model for RootRows {
 }
 
 impl RootRows {
-    /// The rows of this list. It takes no memory.
+    /// The rows of this list. It allocates no memory.
     pub fn of(rows: Vec<RootRow>) -> RootRows
         ensures { result ≡ rows.items }
     {

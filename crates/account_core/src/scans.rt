@@ -6,7 +6,7 @@ use std::alloc::{AllocError, Global};
 use std::marker::Model;
 
 /// The sets of roots that govern mailboxes, one for each mailbox, in order. Contracts see the roots
-/// of each mailbox, by their numbers.
+/// of each mailbox by their numbers.
 #[derive(Debug, Drop)]
 pub struct RootSets {
     sets: Vec<RootSet>,
@@ -34,7 +34,7 @@ impl RootSets {
     ///
     /// # Errors
     ///
-    /// There was no memory. The sets are as before.
+    /// Memory ran out. The sets are as before.
     pub fn push(&mut self, set: RootSet) -> Result<(), AllocError>
         ensures ok { OnOk result (self.new ≡ self.old ++ set ∷ []) }
         ensures err { OnErr result (self.new ≡ self.old) }
@@ -50,7 +50,7 @@ impl RootSets {
     }
 }
 
-/// Octets and numbers of messages, one pair for each root, in order.
+/// Octets and numbers of messages: one pair for each root, in order.
 #[derive(Debug, Drop)]
 pub struct TotalsList {
     totals: Vec<Totals>,
@@ -79,7 +79,7 @@ impl TotalsList {
     ///
     /// # Errors
     ///
-    /// There was no memory. The totals are as before.
+    /// Memory ran out. The totals are as before.
     pub fn push(&mut self, totals: Totals) -> Result<(), AllocError>
         ensures ok { OnOk result (self.new ≡ self.old ++ totals ∷ []) }
         ensures err { OnErr result (self.new ≡ self.old) }

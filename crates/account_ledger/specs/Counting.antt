@@ -9,18 +9,18 @@ use Rattle.account_ledger.specs.Messages.{message_in}
 use Rattle.quota_units.specs.Sums.{cut, cut_totals, most, AreSmall}
 use Rattle.root_ledgers.specs.Scans.{size_of_file, sizes_of}
 
--- one, where the file lacks the flag S
+-- one if the file lacks the flag S, or else zero
 abbrev pub unseen_of : FileRow → ℕ
 unseen_of file = if (flags_of file.name).seen then 0 else 1
 
--- one, and its octets, where it has the flag T
+-- one, and the file's octets, if the file has the flag T, or else zero
 abbrev pub deleted_of : FileRow → ℕ
 deleted_of file = if (flags_of file.name).trashed then 1 else 0
 
 abbrev pub deleted_size_of : FileRow → ℕ
 deleted_size_of file = if (flags_of file.name).trashed then size_of_file file else 0
 
--- the sums, each cut
+-- what the files add up to, each sum cut
 abbrev pub sums_of : List FileRow → MailboxSums
 sums_of files = record {
   all = cut_totals (sizes_of files) (length files);
@@ -46,8 +46,8 @@ pub record AreSmallSums (sums : MailboxSums) : Type 0 where
 abbrev pub mailbox_at : List (List ℕ) → ℕ → List ℕ
 mailbox_at mailboxes index = slice_index_or mailboxes index []
 
--- Files tell the account's messages of a mailbox: any number told of each adds up to as much over
--- both. And the account is so small that no sum is cut.
+-- The files stand for the account's messages of a mailbox: any weight of a message adds up to the
+-- same over the files and over the messages. And the account is so small that no sum is cut.
 pub record TellMailbox (mailbox : List ℕ) (files : List FileRow) (account : Account) : Type 0 where
   pub sums : (weight : Message → ℕ) → sum_by (λ file. weight (message_in mailbox file)) files
       ≡ sum_in mailbox weight account.messages

@@ -1,4 +1,4 @@
--- What a call is answered where the keeper gave no answer.
+-- Why a call gets no reply, if the keeper gave an error.
 use Rattle.keeper.specs.declared.failed.KeepError.{KeepError}
 use Rattle.keeper.specs.declared.failed.KeepError.TheVariants.{NoMemory, Failed}
 use Rattle.account_core.specs.declared.calls.StepError.{StepError}

@@ -23,8 +23,9 @@ RenamesFile from base to name rows rows' =
     (file : FileRow) × (file_named base (listed from rows) ≡ Some file)
     × (rows' ≡ renamed from file.name to (name file.name) rows)
 
--- What a call that was replied to does: an accepted message is the last of the files, a removed one
--- is gone, one that is marked has a name with its flags, and one that is moved keeps its name.
+-- What a call with this reply does to the files. The file of an accepted message comes last, and
+-- the file of a removed message is gone. The file of a marked message has a name with its flags,
+-- and the file of a moved message keeps its name.
 abbrev pub RowsFor : ℕ → Call → List ℕ → Reply → List Row → List Row → Type 0
 RowsFor epoch (Deliver mailbox octets flags) bytes (Delivered number) rows rows' =
     rows' ≡ rows ++ record {

@@ -1,5 +1,5 @@
--- A live account: what is kept of an account in memory beside its keeper, and which account it
--- stands for.
+-- A live account: its keeper, what is kept of the account in memory, and which account it stands
+-- for.
 use Rattle.std.specs.Prelude.{◌≡◌, ◌≢◌, ◌<◌, ◌≤◌, ◌+◌, ◌^◌, ℕ, Bool, false, List, length, Option, Some, IfSome, Result, Ok, Err, IfOk}
 use Rattle.quota_units.specs.Causes.{HasCause, Rose, next_count}
 use Rattle.quota_units.specs.Limiting.{LimitNumbers}
@@ -42,7 +42,7 @@ pub record Live : Type 0 where
   pub deliveries : ℕ
   pub generation : ℕ
 
--- what clauses see of it
+-- what clauses see of a live account
 abbrev pub store_of : Live → Store
 store_of l = record {
   told = l.told;
@@ -56,13 +56,13 @@ store_of l = record {
   lengths = lengths_of l.books;
 }
 
--- limits and a book for each root, and different mailboxes of which INBOX is the first
+-- there are limits and a book for each root, and the mailboxes are different, INBOX first
 pub record IsWhole (l : Live) : Type 0 where
   pub limits : length l.limits ≡ length l.roots
   pub kept : AreKept (kept_of l.limits l.books)
   pub mailboxes : AreMailboxes l.mailboxes
 
--- what is kept in memory stands for the account, and so do the files
+-- what is kept in memory and the files both stand for the account
 pub record Stands (l : Live) (account : Account) (files : Files) : Type 0 where
   pub limits_are : account.limits ≡ l.limits
   pub mailboxes_are : account.mailboxes ≡ l.mailboxes
@@ -74,12 +74,12 @@ pub record Stands (l : Live) (account : Account) (files : Files) : Type 0 where
       → IsKept (limits_at l.limits root) (usage_at l.roots root account)
       (ledger_at files root) (ledger_bytes files root) (book_at l.books root)
 
--- if the files are told
+-- the live account stands for the account, if the files are told
 abbrev pub StandsIfTold : Live → Account → Type 0
 StandsIfTold l account = IfSome l.told (λ told. Stands l account told.files)
 
--- the account that the live one stands for, told by its keeper, after so few entries that no sum is
--- cut
+-- The keeper tells its files, and the live account stands for this account. The account has had so
+-- few entries that no sum is cut.
 pub record Shows (l : Live) (account : Account) : Type 0 where
   pub told : Told
   pub is_told : l.told ≡ Some told
@@ -89,16 +89,16 @@ pub record Shows (l : Live) (account : Account) : Type 0 where
   pub few : entries < 2 ^ 32
   pub orderly : IsOrderly entries account
 
--- if its keeper tells, there is an account that it stands for
+-- if the keeper tells its files, there is an account that the live account stands for
 abbrev pub IsShown : Live → Type 0
 IsShown l = IfSome l.told (λ told. (account : Account) × Shows l account)
 
--- the account after a call that was answered so
+-- the account after a call with this result
 abbrev pub after_call : List RootSpec → Account → Call → Result Reply StepError → Account
 after_call roots account call (Ok given) = step roots account call
 after_call roots account call (Err fault) = account
 
--- how far the counts of deliveries and of changes may go by a call
+-- how much a call may add to the counts of deliveries and of changes
 abbrev pub Counted : Result Reply StepError → Live → Live → Type 0
 Counted (Ok given) l l' =
     (l'.deliveries ≤ l.deliveries + 1) × (l'.generation ≤ l.generation + 1)
@@ -112,14 +112,15 @@ pub record Steps (call : Call) (bytes : List ℕ) (result : Result Reply StepErr
       → StandsIfTold l' (after_call l.roots account call result)
   pub counts : Counted result l l'
 
--- a mailbox is listed, and nothing changes
+-- a mailbox is listed, and the files and what is kept in memory stay
 pub record Looks (failed : Type 0) (l l' : Live) : Type 0 where
   pub same : l' ≡ record l { told = l'.told; faults = l'.faults; lists = next_count l.lists }
   pub files : Changes (OnFiles (λ files files'. files' ≡ files)) l.told l'.told
   pub cause : HasCause failed l.faults l'.faults
   pub due : Due failed l.faults l.append_faults l'.faults l'.append_faults l.told l'.told
 
--- some of the roots that may be settled are, and nothing else changes
+-- some of the roots that may be settled are settled, and the live account stands for the same
+-- account
 pub record Prepares (failed : Type 0) (may : ℕ → Bool) (l l' : Live) : Type 0 where
   pub same : l'
       ≡ record l { told = l'.told; faults = l'.faults; lists = l'.lists; books = l'.books }
@@ -128,7 +129,7 @@ pub record Prepares (failed : Type 0) (may : ℕ → Bool) (l l' : Live) : Type 
   pub cause : HasCause failed l.faults l'.faults
   pub due : Due failed l.faults l.append_faults l'.faults l'.append_faults l.told l'.told
 
--- what a call does when the roots that it needs are settled
+-- what a call does after the roots that it needs are settled
 pub record Acts (call : Call) (bytes : List ℕ) (result : Result Reply StepError)
     (l l' : Live) : Type 0 where
   pub keeps : Keeps (store_of l) (store_of l')

@@ -1,4 +1,4 @@
--- The account that a store's files make when they are opened.
+-- The account that a store's files make when the account is opened.
 use Rattle.std.specs.Prelude.{ℕ, Option}
 use Rattle.std.specs.Option.{option_map}
 use Rattle.quota_roots.specs.declared.setup.Setup.{Setup}
@@ -18,6 +18,6 @@ opening_account setup epoch files = record {
   generation = 0;
 }
 
--- where the files are told
+-- the opening account, if the files are told
 abbrev pub opening_of : Setup → ℕ → Option Told → Option Account
 opening_of setup epoch told = option_map (λ t. opening_account setup epoch t.files) told

@@ -15,28 +15,28 @@ use Rattle.account_ledger.specs.Settling.{SettledFor, SettlesSome, needs}
 use Rattle.account_ledger.specs.Writing.{Spares, WritesBy, misses}
 use Rattle.account_ledger.specs.Filing.{RowsBy}
 
--- how often a call lists mailboxes, by the keeper's count: the begin of a scan never, and a part of
--- one once at most
+-- how often a call lists mailboxes, by the keeper's count: the beginning of a scan never lists one,
+-- and a part of a scan lists one at most
 abbrev pub ListsFor : Call → ℕ → ℕ → Type 0
 ListsFor ScanBegin lists lists' = lists' ≡ lists
 ListsFor (ScanPart index) lists lists' = (lists' ≡ lists) ⊎ (lists' ≡ next_count lists)
 ListsFor call lists lists' = Unit {0}
 
--- a call that the store failed in used up a failure that was due
+-- if the store failed in a call, the call used up a failure that was due
 abbrev pub UsesDue : Result Reply StepError → Store → Store → Type 0
 UsesDue result f f' =
     Due (result ≡ Err StoreError) f.faults f.append_faults f'.faults f'.append_faults f.told f'.told
 
--- the call is answered by the machine
+-- if the call gets a reply, the reply is the account machine's
 abbrev pub Replies : (Account → Type 0) → Call → Result Reply StepError → Store → Type 0
 Replies Is call result f =
     IfOk result (λ given. (account : Account) → Is account → given ≡ reply_of f.roots account call)
 
--- What a call does to the ledgers and the standings of roots: those that it needs and that are in
--- doubt are settled, and then lines or limits are written.
+-- What a call does to the ledgers and the standings of roots. It settles the roots that it needs
+-- and that are in doubt, and then it writes lines or limits.
 pub record PerformsLedgers (Is : Account
     → Type 0) (call : Call) (result : Result Reply StepError) (f f' : Store) : Type 0 where
-  -- the store in between, which agrees with the account still
+  -- the store after the settling and before the writing; it still agrees with the account
   pub middle : Store
   pub keeps : Keeps f middle
   pub agrees : Agrees Is middle

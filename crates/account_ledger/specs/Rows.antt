@@ -1,4 +1,4 @@
--- The rows of roots, by what is kept of them.
+-- The rows and the totals of roots, by their limits and books.
 use Rattle.std.specs.Prelude.{◌≡◌, ◌<◌, ℕ, List, map, Option, Some, None}
 use Rattle.quota_units.specs.Limiting.{LimitNumbers}
 use Rattle.quota_units.specs.declared.totals.Totals.{Totals}
@@ -26,12 +26,12 @@ kept_rows roots limits books mailbox = map (kept_row limits books) (governing ro
 abbrev pub totals_of : List Book → List Totals
 totals_of books = map (λ book. book.totals) books
 
--- the verdict on a message, by the first root that it does not fit
+-- the verdict on a message, by the first root that the message does not fit, if there is one
 abbrev pub IsVerdict : Option (ℕ × Resource) → Verdict → Type 0
 IsVerdict over Fits = over ≡ None
 IsVerdict over (Over root resource) = over ≡ Some (root, resource)
 
--- a root that the verdict names is below this number
+-- if the verdict names a root, the root's number is below this one
 abbrev pub IsInside : ℕ → Verdict → Type 0
 IsInside count Fits = Unit {0}
 IsInside count (Over root resource) = root < count

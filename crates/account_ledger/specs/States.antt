@@ -26,10 +26,10 @@ pub record State : Type 0 where
   -- what the account was opened with, and the entries since
   pub origin : Origin
   pub history : List Entry
-  -- the faults, other than those of appends, that the keeper had counted at the opening
+  -- how many faults other than append faults the keeper had counted at the opening
   pub first_faults : ℕ
 
--- the account now, if the opening one is told
+-- the account now, if the opening account is told
 abbrev pub account_of : State → Option Account
 account_of s = option_map (λ opening. replay s.origin.roots opening s.history) s.origin.account
 
@@ -37,16 +37,17 @@ account_of s = option_map (λ opening. replay s.origin.roots opening s.history) 
 abbrev pub IsAccount : State → Account → Type 0
 IsAccount s account = account_of s ≡ Some account
 
--- a fact about the account, if that is told
+-- a fact about the account, if the account is told
 abbrev pub OfAccount : State → (Account → Type 0) → Type 0
 OfAccount s P = (account : Account) → IsAccount s account → P account
 
--- what was opened stays
+-- what the account was opened with stays
 pub record Opened (s s' : State) : Type 0 where
   pub origin : s'.origin ≡ s.origin
   pub first_faults : s'.first_faults ≡ s.first_faults
 
--- an account that was just opened, when the keeper told this and had counted these faults
+-- the state of an account that was just opened; at the opening the keeper told this and had counted
+-- these faults
 pub record IsOpened (told : Option Told) (faults : ℕ) (setup : Setup) (epoch : ℕ)
     (s : State) : Type 0 where
   pub roots : s.origin.roots ≡ setup.roots
@@ -66,7 +67,7 @@ pub record IsInOrder (s : State) : Type 0 where
   pub roots : s.store.roots ≡ s.origin.roots
   pub epoch : s.store.epoch ≡ s.origin.epoch
 
--- whether the entry of a call that was answered so has fault; a call that found no memory has none
+-- whether the entry of a call with this result has fault; none if the call has no entry
 abbrev pub entry_fault : Result Reply StepError → Option Bool
 entry_fault (Ok given) = Some false
 entry_fault (Err StoreError) = Some true
@@ -79,14 +80,16 @@ pub record ServesNext (caller : ℕ) (call : Call) (bytes : List ℕ) (result : 
   pub serves : Serves s.origin caller s.history call result s'.history
   pub performs : Performs (IsAccount s) call bytes result s.store s'.store
 
--- the account that the files make is orderly, and what is kept stands for it after its history
+-- The account that the files made at the opening is orderly. The live account, with the files that
+-- there are now, stands for that account after this history.
 pub record Holds (setup : Setup) (live : Live) (history : List Entry)
     (then now : Told) : Type 0 where
   pub orderly : IsOrderly 0 (opening_account setup live.epoch then.files)
   pub stands : Stands live
       (replay live.roots (opening_account setup live.epoch then.files) history) now.files
 
--- what is kept is in order: by what the keeper told and had counted at the opening
+-- the live account and the history are in order, by what the keeper told and had counted at the
+-- opening
 pub record InOrder (then : Option Told) (first_faults : ℕ) (setup : Setup) (journal : ℕ)
     (live : Live) (history : List Entry) : Type 0 where
   pub sound : IsSound setup

@@ -22,9 +22,9 @@ pub record Store : Type 0 where
   -- the account's own
   pub roots : List RootSpec
   pub mailboxes : List (List ℕ)
-  -- the second of the opening
+  -- the second in which the account was opened
   pub epoch : ℕ
-  -- of each root; and the length of the ledger of each that is settled, in bytes
+  -- the standing of each root, and the length in bytes of the ledger of each settled root
   pub standings : List Standing
   pub lengths : List ℕ
 
@@ -49,16 +49,16 @@ pub record NoneFalls (f f' : Store) : Type 0 where
   pub faults : f.faults ≤ f'.faults
   pub appends : f.append_faults ≤ f'.append_faults
 
--- a fresh scan: the sizes, and the number, of the files of the mailboxes that the root governs
+-- a fresh scan: the octets and the number of the files in the mailboxes that the root governs
 abbrev pub fresh_scan : List RootSpec → ℕ → List (List ℕ) → List Row → Totals
 fresh_scan roots root mailboxes rows = record {
   octets = scanned_octets roots root mailboxes rows;
   count = scanned_count roots root mailboxes rows;
 }
 
--- The files and the account agree: they stand for each other, a fresh scan comes to the usage of
--- each root, no mailbox has a base twice, and the ledger of each settled root is right, so that its
--- sum is that of a fresh scan.
+-- The files and the account agree. The files stand for the account, and no mailbox has a base
+-- twice. A fresh scan of each root comes to the root's usage. The ledger of each settled root is
+-- right, so its sum is that of a fresh scan, and its length is known.
 pub record Agree (f : Store) (account : Account) (files : Files) : Type 0 where
   pub stand : StandFor files.rows account
   pub fresh : (root : ℕ) → root < length f.roots
@@ -70,6 +70,6 @@ pub record Agree (f : Store) (account : Account) (files : Files) : Type 0 where
   pub long : (root : ℕ) → root < length f.roots → standing_at f.standings root ≡ Settled
       → length_at f.lengths root ≡ length (ledger_bytes files root)
 
--- the files, if they are told, agree with what is the account
+-- if the files are told, they agree with the account
 abbrev pub Agrees : (Account → Type 0) → Store → Type 0
 Agrees Is f = (account : Account) → Is account → IfSome f.told (λ told. Agree f account told.files)

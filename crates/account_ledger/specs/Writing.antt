@@ -1,4 +1,4 @@
--- What calls write into ledgers, when the roots that they need are settled.
+-- What calls write into ledgers after the roots that they need are settled.
 use Rattle.std.specs.Prelude.{◌≡◌, ◌⊎◌, ℕ, Bool, true, false, List, length, sum_by, Option, Some, None, Result, Ok, Err, bytes_eq, if◌then◌else◌}
 use Rattle.std.specs.Option.{option_map}
 use Rattle.std.specs.List.{range_with_len}
@@ -24,14 +24,14 @@ use Rattle.root_ledgers.specs.Lines.{HasCauses, LineLedger, change_at, fallen_at
 use Rattle.account_ledger.specs.Stores.{Store, length_at, standing_at, usage_at}
 use Rattle.account_ledger.specs.Settling.{AreSettled, LedgersStay, LedgersAndFaultsStay, needs}
 
--- how the standing of a root may change by a line
+-- how a line may change the standing of a root
 abbrev pub LineStanding : Option Change → Standing → Standing → Type 0
 LineStanding None standing standing' = standing' ≡ standing
 LineStanding (Some change) Doubt standing' = standing' ≡ Doubt
 LineStanding (Some change) Settled standing' = Unit {0}
 
--- how the ledger of a root changes: a settled root whose usage changes gets its line, if the ledger
--- has room for it, or this folded text, and no other root does
+-- How the ledger of a root changes. If the root is settled and its usage changes, the ledger gets
+-- its line, or this folded text if it has no room for the line. Any other ledger stays.
 abbrev pub LineAt : Option Change → ℕ → List ℕ → Standing → Option (List ℕ) → Standing
     → Option (List ℕ) → Type 0
 LineAt None octets text standing ledger standing' ledger' = ledger' ≡ ledger
@@ -49,16 +49,17 @@ LinesAt roots account from to octets standings standings' files files' = (root :
     (standing_at standings root) (ledger_at files root)
     (standing_at standings' root) (ledger_at files' root)
 
--- how many settled roots fell into doubt, if there was such room for their line
+-- how many settled roots fell into doubt, of those whose ledger had room for the line, or of those
+-- whose ledger had none, as `room` says
 abbrev pub how_many_fell : Bool → (from to : Option (List ℕ)) → ℕ → Store → Store → ℕ
 how_many_fell room from to octets f f' =
     sum_by (λ root. fallen_at room (change_at f.roots from to root) octets
     (standing_at f.standings root) (length_at f.lengths root) (standing_at f'.standings root))
     (range_with_len 0 (length f.roots))
 
--- A message of these octets goes from one mailbox to another by this call, and each settled root
+-- This call takes a message of this many octets from one mailbox to another, and each settled root
 -- whose usage changes gets one line. A root falls into doubt only if its own line, or the folded
--- text in its place, could not be written.
+-- text in place of its ledger, could not be written.
 pub record WritesLines (Is : Account
     → Type 0) (call : Call) (from to : Option (List ℕ)) (octets : ℕ) (f f' : Store) : Type 0 where
   pub count : length f'.standings ≡ length f.standings
@@ -70,7 +71,7 @@ pub record WritesLines (Is : Account
   pub faults : HasCauses (how_many_fell false from to octets f f') f.faults f'.faults
   pub appends : HasCauses (how_many_fell true from to octets f f') f.append_faults f'.append_faults
 
--- a root has these limits: its ledger is the folded text of them and of its usage
+-- a root gets these limits: its ledger becomes the folded text of them and of its usage
 pub record InstallsLimits (row : RootRow) (f f' : Store) : Type 0 where
   pub standings : f'.standings ≡ f.standings
   pub files : Changes (OnFiles (Writes row.root
@@ -78,21 +79,23 @@ pub record InstallsLimits (row : RootRow) (f f' : Store) : Type 0 where
   pub faults : f'.faults ≡ f.faults
   pub appends : f'.append_faults ≡ f.append_faults
 
--- the named message has these octets
+-- the named message has this many octets
 abbrev pub HasNamed : List ℕ → List ℕ → ℕ → Account → Type 0
 HasNamed mailbox base octets account =
     option_map (λ message. message.octets) (named_message mailbox base account.messages)
     ≡ Some octets
 
--- the message that the mailbox and the base name goes from one mailbox to another, with its octets
+-- the call takes the message that the mailbox and the base name from one mailbox to another, and
+-- writes its octets into the lines
 pub record WritesMove (Is : Account → Type 0) (call : Call) (mailbox base : List ℕ)
     (from to : Option (List ℕ)) (f f' : Store) : Type 0 where
   pub octets : ℕ
   pub named : (account : Account) → Is account → HasNamed mailbox base octets account
   pub lines : WritesLines Is call from to octets f f'
 
--- what a call writes, by its reply: nothing, the line of a message with these octets that goes from
--- one mailbox to another, that of the message which a mailbox and a base name, or limits
+-- What a call writes, by its reply: nothing, or the line of a message of this many octets that goes
+-- from one mailbox to another, or the line of the message that a mailbox and a base name, or
+-- limits.
 pub data Writing : Type 0 where
   nothing : Writing
   line : (from to : Option (List ℕ)) → ℕ → Writing
@@ -114,7 +117,8 @@ WritesSo Is call (named_line mailbox base from to) f f' =
     WritesMove Is call mailbox base from to f f'
 WritesSo Is call (limits_of row) f f' = InstallsLimits row f f'
 
--- a call that the store failed in leaves the ledgers, and another error all
+-- What a call writes, by its result. If the store failed, the ledgers stay; after another error the
+-- counts of faults stay too.
 abbrev pub WritesBy : (Account → Type 0) → Call → Result Reply StepError → Store → Store → Type 0
 WritesBy Is call (Ok given) f f' = WritesSo Is call (writing call given) f f'
 WritesBy Is call (Err StoreError) f f' = LedgersStay f f'
@@ -126,13 +130,14 @@ is_filing (Deliver mailbox octets flags) = true
 is_filing (Move from base to) = true
 is_filing call = false
 
--- If memory ran out, standings, ledgers and counts of faults are as before; or the roots that the
--- call needs are settled, and the keeper found no memory to put or to rename a file.
+-- If memory ran out, the standings, the ledgers and the counts of faults are as before. Or the call
+-- has settled the roots that it needs, and then the keeper ran out of memory to put or rename a
+-- file.
 abbrev pub Spares : Call → Store → Store → Type 0
 Spares call f f' = LedgersAndFaultsStay f f'
     ⊎ ((is_filing call ≡ true) × AreSettled (needs f.roots call) f')
 
--- what a reply names is not there
+-- the reply says that a mailbox, a message or a root is missing, or that a base is taken
 abbrev pub misses : Reply → Bool
 misses NoMailbox = true
 misses NoMessage = true

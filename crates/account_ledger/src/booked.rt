@@ -1,4 +1,4 @@
-// What contracts see of an account: the history that it stands for, and its keeper.
+// What contracts see of an account: its origin, its history and its keeper.
 ghost use Rattle.std.specs.Prelude.{◌≡◌};
 
 use crate::AccountState;

@@ -11,8 +11,8 @@ use quota_roots::Roots;
 use quota_units::{MOST, Name, Totals, cut_sum};
 use std::alloc::{AllocError, Global};
 
-/// What the messages of a mailbox add up to: all of them, those that have the flag T, and the
-/// number of those that lack the flag S.
+/// What the messages of a mailbox add up to: all messages, the messages with the flag T, and the
+/// number of messages without the flag S.
 #[derive(Clone, Copy)]
 pub(crate) struct MailboxSums {
     pub(crate) all: Totals,
@@ -20,7 +20,7 @@ pub(crate) struct MailboxSums {
     pub(crate) unseen: u64,
 }
 
-/// These totals, where they are counted, or else none.
+/// These totals if they are counted, or else zeros.
 fn counted(is_counted: bool, totals: Totals) -> Totals
     requires { AreSmall totals }
     ensures octets { result.octets ≡ (if is_counted then totals.octets else 0) }
@@ -37,7 +37,7 @@ fn counted(is_counted: bool, totals: Totals) -> Totals
     }
 }
 
-/// One, where the message has not been seen, or else zero.
+/// One if the message has not been seen, or else zero.
 fn unseen(seen: bool) -> u64
     ensures value { result ≡ (if seen then 0 else 1) }
     ensures small { result < 2 ^ 62 }

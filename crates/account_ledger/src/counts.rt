@@ -1,8 +1,8 @@
 /// How often the account has changed.
 #[derive(Clone, Copy, Debug, PartialEq, Eq)]
 pub(crate) struct Counts {
-    /// The deliveries that were accepted.
+    /// How many deliveries were accepted.
     pub(crate) deliveries: u64,
-    /// The deliveries that were accepted, the removals, and the moves between two mailboxes.
+    /// How many deliveries, removals and moves between two mailboxes were made.
     pub(crate) generation: u64,
 }

@@ -1,5 +1,5 @@
-// A message is delivered: it is put into its mailbox, and the ledgers of the mailbox's roots get
-// its line.
+// Deliveries. A delivery puts a message into its mailbox and writes its line into the ledger of
+// each root that governs the mailbox.
 ghost use Rattle.std.specs.Prelude.{◌≡◌, ◌<◌, ◌≤◌, ◌+◌, ◌^◌, ℕ, true, None, length, bytes_eq, IfOk};
 ghost use Rattle.std.specs.List.{list_any};
 ghost use Rattle.message_names.specs.Written.{written_name};
@@ -44,7 +44,8 @@ fn message_name(
 }
 
 impl<K: Keeper> LiveAccount<K> {
-    /// A delivery: a message of this many octets, with these flags, for the mailbox of this name.
+    /// Delivers a message of this many octets, with these flags, to the mailbox of this name, if
+    /// the message fits the roots that govern the mailbox.
     pub(crate) fn deliver(
         &mut self,
         alloc: Global,

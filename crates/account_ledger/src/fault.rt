@@ -12,7 +12,7 @@ use account_core::{Reply, StepError};
 use admission::Verdict;
 use keeper::KeepError;
 
-/// Why a call is not replied to, by what the keeper answered.
+/// Why a call gets no reply, if the keeper gave this error.
 pub(crate) fn step_error(fault: KeepError) -> StepError
     ensures { result ≡ step_error fault }
 {
@@ -22,7 +22,7 @@ pub(crate) fn step_error(fault: KeepError) -> StepError
     }
 }
 
-/// What a check is answered, by the verdict on its message.
+/// The reply to a check, by the verdict on its message.
 pub(crate) fn check_reply(verdict: Verdict) -> Reply
     ensures reply { (over : Option (ℕ × Resource)) → IsVerdict over verdict
         → result ≡ over_or over Reply.Fits }

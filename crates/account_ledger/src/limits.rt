@@ -1,4 +1,4 @@
-// The limits of a root are set, and its ledger with them.
+// Setting the limits of a root and installing its ledger.
 ghost use Rattle.std.specs.Prelude.{◌≡◌, ◌≢◌, ◌<◌, [], Some, length, nat_eq};
 ghost use Rattle.quota_roots.specs.RootLists.{root_named};
 ghost use Rattle.account_ledger.specs.Lives.{Acts, Steps, store_of};
@@ -11,8 +11,8 @@ use quota_units::Limits;
 use std::alloc::Global;
 
 impl<K: Keeper> LiveAccount<K> {
-    /// The root of this name has these limits from now on. It is settled first, if it is in doubt;
-    /// then its ledger is the folded text of the new limits and its usage.
+    /// Sets the limits of the root of this name. If the root is in doubt, it is settled first. Then
+    /// the folded text of the new limits and the usage becomes its ledger.
     pub(crate) fn set_limits(
         &mut self,
         alloc: Global,

@@ -17,8 +17,8 @@ use root_ledgers::RootLedgers;
 use std::alloc::Global;
 use std::marker::Model;
 
-/// An account as it stands: its files over a keeper, and what is kept in memory of its roots. It
-/// knows no history.
+/// An account without its history: a keeper with the files, and what is kept in memory of the
+/// account and its roots.
 #[derive(Drop)]
 pub(crate) struct LiveAccount<K: Keeper> {
     pub(crate) keeper: K,
@@ -55,8 +55,8 @@ impl<K: Keeper> Model for LiveAccount<K> {
 }
 
 impl<K: Keeper> LiveAccount<K> {
-    /// Performs a call: what it is answered, and what it does to the files and the ledgers. It is
-    /// no entry of a history yet.
+    /// Performs a call: changes the files and the ledgers, and gives the reply. It makes no entry
+    /// of a history.
     pub(crate) fn perform(
         &mut self,
         alloc: Global,
@@ -98,7 +98,8 @@ impl<K: Keeper> LiveAccount<K> {
         }
     }
 
-    /// There are limits and a book for each root, and the mailboxes are sound.
+    /// Shows contracts that there are limits and a book for each root, and that the mailboxes are
+    /// sound.
     pub(crate) fn show_whole(&self)
         ensures { IsWhole self.now }
     {
@@ -120,8 +121,8 @@ impl<K: Keeper> LiveAccount<K> {
         self.roots.find(name)
     }
 
-    /// The roots that a message comes under if it goes from one mailbox to another; one that is
-    /// delivered comes from none.
+    /// The roots that gain a message that goes from one mailbox to another: those that govern the
+    /// target and not the source. A message that is delivered has no source.
     pub(crate) fn gainers(&self, from: Option<&[u8]>, to: &[u8]) -> RootSet
         ensures value { result
             ≡ gainers self.now.roots (option_map (λ m. m.now) from.entry) to.now }
@@ -133,7 +134,7 @@ impl<K: Keeper> LiveAccount<K> {
     }
 }
 
-/// Whether a name stands among the names.
+/// Whether this name is in the list.
 fn has_name(names: &[Name], name: &[u8]) -> bool
     ensures { result ≡ list_any (λ mailbox. bytes_eq mailbox name.now) names.now }
 {

@@ -1,4 +1,4 @@
-// A message is marked: its file has a name with its flags. No usage changes.
+// Marking a message: its file gets a name with the new flags. No usage changes.
 ghost use Rattle.std.specs.Prelude.{◌≡◌, [], true, Some, bytes_eq, IfSome};
 ghost use Rattle.std.specs.List.{list_any};
 ghost use Rattle.keeper.specs.Files.{listed};
@@ -16,7 +16,7 @@ use quota_units::Flags;
 use std::alloc::Global;
 
 impl<K: Keeper> LiveAccount<K> {
-    /// A mark: the message of this base in the mailbox of this name has these flags from now on.
+    /// Gives the message of this base in the mailbox of this name these flags.
     pub(crate) fn mark(
         &mut self,
         alloc: Global,

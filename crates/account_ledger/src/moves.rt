@@ -1,5 +1,5 @@
-// A message moves to another mailbox: its file moves, and roots that it leaves or comes under get
-// its line.
+// Moves of a message to another mailbox. The file moves, and each settled root that loses or gains
+// the message gets a line in its ledger.
 ghost use Rattle.std.specs.Prelude.{◌≡◌, ◌<◌, ◌^◌, [], true, false, None, Some, bytes_eq, IfSome};
 ghost use Rattle.std.specs.List.{list_any};
 ghost use Rattle.quota_roots.specs.Governing.{gaining};
@@ -22,8 +22,7 @@ use root_ledgers::size_of_file;
 use std::alloc::Global;
 
 impl<K: Keeper> LiveAccount<K> {
-    /// A move: the message of this base goes from one mailbox to another, and keeps its file's
-    /// name.
+    /// Moves the message of this base from one mailbox to another. Its file keeps its name.
     pub(crate) fn move_message(
         &mut self,
         alloc: Global,
@@ -75,8 +74,8 @@ impl<K: Keeper> LiveAccount<K> {
         }
     }
 
-    /// Moves a message to a mailbox that has none of its base, if it fits the roots that it comes
-    /// under.
+    /// Moves a message to a mailbox that has no message of its base, if the message fits the roots
+    /// that gain it.
     fn move_fitting(
         &mut self,
         alloc: Global,

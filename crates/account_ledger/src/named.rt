@@ -1,5 +1,5 @@
-// The file of the message that a mailbox and a base name is looked for: its mailbox is listed, and
-// no list of messages is kept.
+// Finding the file of the message that a mailbox and a base name. The mailbox is listed each time,
+// because no list of messages is kept.
 ghost use Rattle.std.specs.Prelude.{◌≡◌, ◌≢◌, ◌<◌, ℕ, true, false, ◌&&◌, bytes_eq, length, IfOk, IfSome, IsErrOf};
 ghost use Rattle.quota_units.specs.Causes.{HasCause};
 ghost use Rattle.keeper.specs.Files.{listed, has_row};
@@ -15,7 +15,7 @@ use keeper::{FileRow, KeepError, Keeper};
 use message_names::base_of;
 use std::alloc::Global;
 
-/// The first of the files that has this base.
+/// The first file that has this base.
 fn first_named(files: Vec<FileRow>, base: &[u8]) -> Option<FileRow>
     ensures { result ≡ file_named base.now files.items }
 {
@@ -58,7 +58,7 @@ impl<K: Keeper> LiveAccount<K> {
         }
     }
 
-    /// The file of the message of this base in a mailbox, which is listed.
+    /// Lists a mailbox and gives the file of the message of this base, if there is one.
     pub(crate) fn find_file(
         &mut self,
         alloc: Global,

@@ -1,4 +1,4 @@
-// The calls that leave the account as it is: questions on roots and on mailboxes, and a scan.
+// The calls that leave the account as it is: questions about roots and mailboxes, and scans.
 ghost use Rattle.std.specs.Prelude.{◌≡◌, ◌<◌, ◌≤◌, ◌↔◌, [], vec_capacity, map, length, All, IfOk, IsTrue};
 ghost use Rattle.quota_roots.specs.Governing.{governing};
 ghost use Rattle.admission.specs.Fitting.{limits_at};
@@ -17,7 +17,7 @@ use root_ledgers::totals_of_files;
 use std::alloc::{AllocError, Global};
 
 impl<K: Keeper> LiveAccount<K> {
-    /// The quota of the root of this name; a root in doubt is settled first.
+    /// The quota of the root of this name. If the root is in doubt, it is settled first.
     pub(crate) fn quota(&mut self, alloc: Global, name: &[u8]) -> Result<Reply, StepError>
         ensures { Steps (Call.Quota name.now) [] result self.old self.new }
     {
@@ -43,7 +43,8 @@ impl<K: Keeper> LiveAccount<K> {
         self.ledgers.limits()[root as usize]
     }
 
-    /// The rows of the roots that govern the mailbox; those in doubt are settled first.
+    /// The rows of the roots that govern the mailbox. Those roots that are in doubt are settled
+    /// first.
     pub(crate) fn roots(&mut self, alloc: Global, mailbox: &[u8]) -> Result<Reply, StepError>
         ensures { Steps (Call.Roots mailbox.now) [] result self.old self.new }
     {
@@ -54,8 +55,8 @@ impl<K: Keeper> LiveAccount<K> {
         Ok(Reply::Roots(self.rows_of(rows, mailbox)))
     }
 
-    /// The rows of the roots that govern the mailbox, in a list that is empty and has memory for
-    /// four.
+    /// The rows of the roots that govern the mailbox. They are put into `rows`, which is empty and
+    /// has memory for four.
     fn rows_of(&self, rows: Vec<RootRow>, mailbox: &[u8]) -> RootRows
         requires empty { rows.items ≡ [] }
         requires capacity { 4 ≤ vec_capacity rows }
@@ -73,8 +74,8 @@ impl<K: Keeper> LiveAccount<K> {
         )
     }
 
-    /// Whether INBOX would take a message of this many octets; its roots in doubt are settled
-    /// first.
+    /// Whether INBOX would take a message of this many octets. Those roots of INBOX that are in
+    /// doubt are settled first.
     pub(crate) fn check(&mut self, alloc: Global, octets: u64) -> Result<Reply, StepError>
         ensures { Steps (Call.Check octets) [] result self.old self.new }
     {
@@ -85,7 +86,7 @@ impl<K: Keeper> LiveAccount<K> {
         Ok(check_reply(verdict))
     }
 
-    /// The status of a mailbox, which is listed.
+    /// Lists a mailbox and gives its status.
     pub(crate) fn status(&mut self, alloc: Global, mailbox: &[u8]) -> Result<Reply, StepError>
         ensures { Steps (Call.Status mailbox.now) [] result self.old self.new }
     {
@@ -114,7 +115,7 @@ impl<K: Keeper> LiveAccount<K> {
         Ok(Reply::Begun { generation, sets })
     }
 
-    /// How many deliveries, removals and moves between two mailboxes there were.
+    /// How many deliveries, removals and moves between two mailboxes were made.
     fn generation(&self) -> u64
         ensures { result ≡ self.now.generation }
     {
@@ -128,7 +129,7 @@ impl<K: Keeper> LiveAccount<K> {
         sets_of(alloc, &self.roots, self.mailboxes.as_slice())
     }
 
-    /// What the messages of the mailbox at this place add up to; it is listed once.
+    /// Lists the mailbox at this place once, and gives what its messages add up to.
     pub(crate) fn scan_part(&mut self, alloc: Global, index: u32) -> Result<Reply, StepError>
         ensures { Steps (Call.ScanPart index) [] result self.old self.new }
     {

@@ -1,4 +1,4 @@
-// A message is removed: its file is removed, and the settled roots of its mailbox get its line.
+// Removing a message and its file. Each settled root of its mailbox gets a line in its ledger.
 ghost use Rattle.std.specs.Prelude.{◌≡◌, ◌≢◌, ◌<◌, ◌^◌, [], true, Some, bytes_eq, IfSome};
 ghost use Rattle.std.specs.List.{list_any};
 ghost use Rattle.keeper.specs.Files.{listed};
@@ -12,7 +12,7 @@ use root_ledgers::size_of_file;
 use std::alloc::Global;
 
 impl<K: Keeper> LiveAccount<K> {
-    /// A removal: the message of this base goes from the mailbox of this name.
+    /// Removes the message of this base from the mailbox of this name.
     pub(crate) fn remove(
         &mut self,
         alloc: Global,

@@ -1,4 +1,4 @@
-// Rows and totals of roots, by what is kept of them.
+// The rows and the totals of roots, by their limits and books.
 ghost use Rattle.std.specs.Prelude.{◌≡◌, ◌<◌, ◌≤◌, [], take, length, vec_capacity, All};
 ghost use Rattle.quota_units.specs.Limiting.{AreLimits};
 ghost use Rattle.quota_units.specs.Sums.{AreSmall};
@@ -23,8 +23,8 @@ fn row(limits: &[Limits], books: &[Book], root: u32) -> RootRow
     }
 }
 
-/// The rows of the roots that govern the mailbox, in order, in a list that is empty and has memory
-/// for four.
+/// The rows of the roots that govern the mailbox, in order. They are put into `rows`, which is
+/// empty and has memory for four.
 pub(crate) fn rows_of(
     rows: Vec<RootRow>,
     roots: &Roots,
@@ -47,7 +47,7 @@ pub(crate) fn rows_of(
     RootRows::of(rows)
 }
 
-/// The totals of each root, and zeros behind them.
+/// The totals of each root, and zeros after the last root.
 pub(crate) fn totals_of(books: &[Book]) -> [Totals; 4]
     requires few { length books.now ≤ 4 }
     requires small { All (λ book. AreSmall book.totals) books.now }
@@ -65,7 +65,7 @@ pub(crate) fn totals_of(books: &[Book]) -> [Totals; 4]
     totals
 }
 
-/// Each set limit is in its range.
+/// Shows contracts that each limit that is set is in its range.
 pub(crate) fn show_limits(limits: &[Limits])
     ensures { All AreLimits limits.now }
 {

@@ -1,4 +1,4 @@
-// Roots of a live account are settled, and their usage is read and judged.
+// Settling the roots of a live account, and judging by their usage whether a message fits them.
 ghost use Rattle.std.specs.Prelude.{◌≡◌, ◌≢◌, ◌<◌, ℕ, length, nat_eq, All, IfOk, OnOk, IsErr};
 ghost use Rattle.quota_roots.specs.RootSets.{has_root};
 ghost use Rattle.account_core.specs.Account.{Account};
@@ -25,8 +25,8 @@ impl<K: Keeper> LiveAccount<K> {
     ///
     /// # Errors
     ///
-    /// `Store` if the store failed: one of the roots is in doubt still. `NoMemory`: nothing
-    /// changed.
+    /// `Store` if the store failed. One of the roots is still in doubt then. `NoMemory` if memory
+    /// runs out. The roots, the files and the counts of faults are as before then.
     pub(crate) fn settle(&mut self, alloc: Global, set: RootSet) -> Result<(), StepError>
         requires { All (λ root. root < length self.old.roots) set }
         ensures prepares { Prepares (result ≡ Err StepError.Store)
@@ -38,7 +38,7 @@ impl<K: Keeper> LiveAccount<K> {
         ensures whole { IsWhole self.new }
         ensures never_full { (limit : ℕ) → result ≢ Err (StepError.JournalFull limit) }
     {
-        // What is known of the ledgers before.
+        // What is known of the ledgers before they are settled.
         self.ledgers.show_kept();
         let settled = self.ledgers.settle(
             alloc,
@@ -54,11 +54,12 @@ impl<K: Keeper> LiveAccount<K> {
         }
     }
 
-    /// Settles the root of this number if it is in doubt, and answers its usage.
+    /// Settles the root of this number if it is in doubt, and gives its usage.
     ///
     /// # Errors
     ///
-    /// `Store` if the store failed, and `NoMemory`. The root and its ledger are as before then.
+    /// `Store` if the store failed, and `NoMemory` if memory runs out. The root and its ledger are
+    /// as before then.
     pub(crate) fn usage(&mut self, alloc: Global, root: u32) -> Result<Totals, StepError>
         requires { root < length self.old.roots }
         ensures prepares { Prepares (result ≡ Err StepError.Store) (nat_eq root) self.old self.new }
@@ -77,7 +78,7 @@ impl<K: Keeper> LiveAccount<K> {
         Ok(self.totals_of(root))
     }
 
-    /// The totals that are kept of the root of this number.
+    /// The totals in the book of the root of this number.
     fn totals_of(&self, root: u32) -> Totals
         requires { root < length self.now.roots }
         ensures { result ≡ (book_at self.now.books root).totals }
@@ -86,8 +87,8 @@ impl<K: Keeper> LiveAccount<K> {
         self.ledgers.books()[root as usize].totals
     }
 
-    /// Whether a message of this many octets fits the roots of a set, which are settled. It takes
-    /// no memory.
+    /// Whether a message of this many octets fits the roots of a set. All of them are settled. The
+    /// verdict takes no memory.
     pub(crate) fn verdict(&self, set: RootSet, octets: u64) -> Verdict
         requires settled { AreSettled (has_root set) (store_of self.now) }
         requires inside { All (λ root. root < length self.now.roots) set }
@@ -98,7 +99,7 @@ impl<K: Keeper> LiveAccount<K> {
         self.ledgers.show_kept();
         let totals = totals_of(self.ledgers.books());
         show_limits(self.ledgers.limits());
-        // No limit is so large that more octets than these could be within it.
+        // Every limit is below MOST, so cutting the octets at MOST does not change the verdict.
         let octets = octets.min(MOST);
         let count = self.ledgers.books().len();
         admit(self.ledgers.limits(), &totals[..count], set, octets)

@@ -30,8 +30,8 @@ use std::snapshot::Snapshot;
 /// An account over a keeper: its files, the ledgers of its quota roots, and the history of its
 /// calls.
 ///
-/// Contracts see its store, that is what the keeper tells and counts and which roots are settled,
-/// what the account was opened with, and the history.
+/// Contracts see the account's store, what the account was opened with, and its history. The store
+/// has what the keeper tells and counts, and the standing of each root.
 #[derive(Drop)]
 pub struct AccountState<K: Keeper> {
     pub(crate) live: LiveAccount<K>,
@@ -42,8 +42,8 @@ pub struct AccountState<K: Keeper> {
     setup: Snapshot<Setup>,
 }
 
-/// Whether the entry of a call that was answered so has fault. A call that found no memory has no
-/// entry.
+/// Whether the entry of a call with this answer has fault. `None` if the call has no entry: memory
+/// ran out, or the journal is full.
 fn entry_fault(answer: &Result<Reply, StepError>) -> Option<bool>
     ensures { result ≡ entry_fault answer.now }
 {
@@ -78,17 +78,19 @@ impl<K: Keeper> Model for AccountState<K> {
 }
 
 impl<K: Keeper> AccountState<K> {
-    /// Opens the account that the keeper's files tell. Its history is empty, and each of its roots
+    /// Opens the account that the keeper's files make. Its history is empty, and each of its roots
     /// is in doubt.
     ///
-    /// All mailboxes are listed, then the files are looked at, and then the ledgers are read.
+    /// The mailboxes are listed one after another, and the files of each are looked through. If
+    /// nothing prevents opening the account, the ledgers are read then.
     ///
     /// # Errors
     ///
-    /// `Store` if the store failed; `TooManyMessages` above 1048576 files in the mailboxes;
-    /// `DoubleName` at the first file whose base another file of its mailbox has; `EpochUsed` at
-    /// the first whose base begins with the epoch and a dot and ends with `.quotad`; and
-    /// `NoMemory`. The keeper comes back, with its files as they were.
+    /// `Store` if the store failed. `TooManyMessages` if the mailboxes have more than 1048576
+    /// files. `DoubleName` if two files of a mailbox have one base; it names the first such base.
+    /// `EpochUsed` if the base of a file begins with the epoch and a dot and ends with `.quotad`;
+    /// it names the first such base. `NoMemory` if memory runs out. The error gives the keeper
+    /// back, with its files as they were.
     pub fn open(
         alloc: Global,
         keeper: K,
@@ -162,7 +164,7 @@ impl<K: Keeper> AccountState<K> {
         Ok(state)
     }
 
-    /// How many calls the history has.
+    /// How many entries the history has.
     pub fn calls(&self) -> u32
         ensures { result ≡ length self.now.history }
     {
@@ -176,7 +178,7 @@ impl<K: Keeper> AccountState<K> {
         self.live.roots.count()
     }
 
-    /// Whether the root of this number is settled.
+    /// The standing of the root of this number: settled, or in doubt.
     pub fn standing(&self, root: u32) -> Standing
         requires { root < length self.now.origin.roots }
         ensures { result ≡ standing_at self.now.store.standings root }
@@ -185,29 +187,29 @@ impl<K: Keeper> AccountState<K> {
         self.live.ledgers.books()[root as usize].standing
     }
 
-    /// Serves a call of this caller: a delivery, a check, a removal, new flags, a move, new limits,
-    /// a question on the quota of a root, on the roots of a mailbox or on its status, the begin of
-    /// a scan, or a part of one. The begin of a scan lists no mailbox, and a part lists its own
-    /// alone.
+    /// Serves a call of this caller. The call is a delivery, a check, a removal, a change of flags,
+    /// a move, a change of limits, a question about the quota of a root, the roots of a mailbox or
+    /// the status of a mailbox, the beginning of a scan, or a part of a scan. The beginning of a
+    /// scan lists no mailbox, and a part lists only its own mailbox.
     ///
-    /// `bytes` are the octets of a delivered message, at most 67108864, and empty for the other
-    /// calls.
+    /// `bytes` has the octets of the message that is delivered, at most 67108864. It is empty for
+    /// the other calls.
     ///
-    /// All memory is taken before a file is changed, but for what the keeper needs to put a
-    /// message's file or to rename it.
+    /// All memory is taken before a file is changed, except the memory that the keeper needs to put
+    /// or rename the file of a message.
     ///
-    /// A delivery that is accepted, a removal and a move write one line into the ledger of each
-    /// settled root whose usage changes, or fold the ledger if there is no room. If that fails the
-    /// call is answered all the same, and that root is in doubt.
+    /// An accepted delivery, a removal or a move writes one line into the ledger of each settled
+    /// root whose usage changes. If a ledger has no room for its line, the call folds that ledger.
+    /// If the write fails, the call still gets its reply, and the root of that ledger is in doubt.
     ///
     /// # Errors
     ///
-    /// `JournalFull` exactly if the history holds as many entries as the setup's journal allows;
-    /// nothing changes then. `Store` only if the store failed in this call; the entry has fault
-    /// then, and the messages and the limits are as before. `NoMemory`: there is no entry, and the
-    /// messages and the limits are as before; so are all roots and their ledgers, unless a delivery
-    /// or a move has settled all roots that it needs, and the keeper found no memory to put or
-    /// rename the file.
+    /// `JournalFull` exactly if the history has as many entries as the setup's journal allows.
+    /// Nothing changes then. `Store` only if the store failed in this call. The call's entry has
+    /// fault then, and the messages and the limits are as before. `NoMemory` if memory runs out.
+    /// There is no entry then, and the messages and the limits are as before. All roots and their
+    /// ledgers are as before too, unless memory ran out while the keeper was putting or renaming
+    /// the file: by then a delivery or a move has settled all roots that it needs.
     pub fn serve(
         &mut self,
         alloc: Global,
@@ -218,7 +220,8 @@ impl<K: Keeper> AccountState<K> {
         requires asked { MayBeAsked call }
         requires bytes { HasBytes call bytes.now }
         ensures opened { Opened self.old self.new }
-        // The call comes right after the history, gets its answer, and leads to the history then.
+        // The call follows the old history and gets its answer. The new history has its entry, if
+        // it has one.
         ensures serves { Serves self.old.origin caller self.old.history call result
             self.new.history }
         ensures form { IfOk result (HasForm self.old.store.roots self.old.store.mailboxes call) }
@@ -250,7 +253,7 @@ impl<K: Keeper> AccountState<K> {
         answer
     }
 
-    /// Serves a call, for whose entry the journal has room, and records it.
+    /// Serves a call and records it. The journal has room for its entry.
     fn serve_next(
         &mut self,
         alloc: Global,
@@ -277,19 +280,20 @@ impl<K: Keeper> AccountState<K> {
         answer
     }
 
-    /// Whether the history holds as many entries as it may.
+    /// Whether the history has as many entries as the journal allows.
     fn is_full(&self) -> bool
         ensures { IsTrue result ↔ (length self.now.history ≡ self.now.origin.journal) }
     {
         self.history.len() >= self.journal as usize
     }
 
-    /// Settles the root of this number if it is in doubt, and answers its usage. It is no entry of
-    /// the history.
+    /// Settles the root of this number if it is in doubt, and gives its usage in octets and
+    /// messages. The history gets no entry.
     ///
     /// # Errors
     ///
-    /// `Store` if the store failed, and `NoMemory`. The root and its ledger are as before then.
+    /// `Store` if the store failed, and `NoMemory` if memory runs out. The root and its ledger are
+    /// as before then.
     pub fn usage(&mut self, alloc: Global, root: u32) -> Result<Totals, StepError>
         requires { root < length self.old.origin.roots }
         ensures opened { Opened self.old self.new }
@@ -316,7 +320,7 @@ impl<K: Keeper> AccountState<K> {
         usage
     }
 
-    /// The keeper, as the account leaves it.
+    /// Ends the account and gives its keeper back as it is.
     pub fn into_keeper(self) -> K
         ensures told { K.told result ≡ self.store.told }
         ensures faults { K.faults result ≡ self.store.faults }
@@ -328,7 +332,7 @@ impl<K: Keeper> AccountState<K> {
         keeper
     }
 
-    /// The state is in order, between any two calls.
+    /// Shows contracts that the state is in order between any two calls.
     pub fn show_in_order(&self)
         ensures { IsInOrder self.now }
     {

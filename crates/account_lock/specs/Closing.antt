@@ -4,8 +4,7 @@ use Rattle.account_core.specs.declared.calls.Entry.{Entry}
 use Rattle.account_core.specs.Histories.{Origin, Begins, EachBegins, calls_by, CallersBelow}
 use Rattle.account_lock.specs.Known.{View}
 
--- a value with the whole history, of which the view of the first pass stands for all passes and all
--- entries
+-- a value with the whole history; the view of the first pass stands for all passes and all entries
 pub record Leaves {A : Type 0} (origin : A → Origin) (history : A
     → List Entry) (v : View) (x : A) : Type 0 where
   pub held : v.held ≡ v.made

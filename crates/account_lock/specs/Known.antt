@@ -1,4 +1,4 @@
--- What a thread knows that steps on a lock's words: its view.
+-- What a thread that makes steps on a lock's words knows: its view.
 use Rattle.std.specs.Prelude.{ℕ, Bool, false, List, []}
 use Rattle.std.specs.Prelude.{None}
 use Rattle.account_core.specs.declared.calls.Entry.{Entry}
@@ -20,7 +20,7 @@ pub record View : Type 0 where
   pub limit : ℕ
   pub number : ℕ
   pub stage : Stage
-  -- the ticket, where one is out
+  -- the ticket, if one is out
   pub ticket : ℕ
   -- the entries that it has seen, and those of them that have its number
   pub seen : List Entry
@@ -28,9 +28,9 @@ pub record View : Type 0 where
   -- how many passes it stands for, and how many entries they made
   pub held : ℕ
   pub own : ℕ
-  -- what the joins found to be seen
+  -- for each join, what the two passes had seen
   pub olds : List (List Entry)
-  -- of the first pass: how many passes were made, and whether one is being made
+  -- for the first pass: how many passes were made, and whether one is being made
   pub made : ℕ
   pub pending : Bool
 

@@ -1,4 +1,4 @@
--- What the rule of a lock says in plain words. It holds between any two steps.
+-- Laws that follow from the rule of a lock. They hold between any two steps.
 use Rattle.std.specs.Prelude.{◌≡◌, ℕ, ◌+◌, ◌%◌, ◌^◌, ◌<◌, ◌≤◌, ◌↔◌, List, [], ◌∷◌, length, slice_index, Option, Some}
 use mathlib.Core.Option.{some}
 use Rattle.atomic_table.specs.Table.{State}
@@ -8,7 +8,7 @@ use Rattle.account_lock.specs.Known.{View, serving}
 use Rattle.account_lock.specs.Order.{At, Exists, HasTicket, IsLive, Kept}
 
 module _ {A : Type 0} (origin : A → Origin) (history : A → List Entry) where
-  -- at most one pass has the turn, and it holds the ticket that is served
+  -- at most one pass has the turn, and its ticket is the one that is served
   abbrev pub OneTurn : Type 0
   OneTurn = (limit : ℕ) (s : State (Option A) View) → Kept origin history limit s → (i j : ℕ)
       (v w : View) → At s.views i v → At s.views j w → v.stage ≡ serving → w.stage ≡ serving
@@ -24,8 +24,8 @@ module _ {A : Type 0} (origin : A → Origin) (history : A → List Entry) where
       × ((t i j : ℕ) (v w : View) → At s.views i v → At s.views j w → HasTicket t v → HasTicket t w
       → i ≡ j)
 
-  -- a value at home has the history that is counted; each pass has seen a front of it, and its own
-  -- entries are those with its number
+  -- the history of a value at home has as many entries as are counted, modulo 2 ^ 64; each pass has
+  -- seen a prefix of it, and its own entries are those with its number
   abbrev pub HomeIsCounted : Type 0
   HomeIsCounted = (limit : ℕ) (s : State (Option A) View) → Kept origin history limit s → (x : A)
       → s.homes ≡ some (Some x) ∷ []

@@ -1,4 +1,4 @@
--- A turn, once its value was written to.
+-- A turn after its value was written to.
 use Rattle.account_lock.specs.declared.turn.Turn.{Turn}
 
 abbrev pub with_value : {A : Type 0} → Turn A → A → Turn A

@@ -1,6 +1,6 @@
 -- The rule of a lock: what holds, between any two steps, of its words, its slot and all views. Word
--- 0 counts the tickets that were drawn, word 1 those that were served, word 2 the entries, and word
--- 3 the passes.
+-- 0 counts the tickets that were drawn, word 1 the tickets that were served, word 2 the entries,
+-- and word 3 the passes.
 use Rattle.std.specs.Prelude.{◌≡◌, ◌≢◌, ℕ, ◌+◌, ◌%◌, ◌^◌, ◌<◌, ◌≤◌, Bool, true, false, List, [], ◌∷◌, length, Option, Some, ◌⊎◌}
 use mathlib.Core.Option as maybe
 use mathlib.Core.Option.{some, none}
@@ -10,20 +10,20 @@ use Rattle.account_core.specs.declared.calls.Entry.{Entry}
 use Rattle.account_core.specs.Histories.{Origin, Begins, EachBegins, calls_by, CallersBelow}
 use Rattle.account_lock.specs.Known.{View, Stage, resting, waiting, serving, spent}
 
--- the view of this seat
+-- the view at this seat
 abbrev pub At : List View → ℕ → View → Type 0
 At views seat v = get_elem? views seat ≡ some v
 
--- there is such a view
+-- some seat has a view that meets P
 abbrev pub Exists : (View → Type 0) → List View → Type 0
 Exists P views = (seat : ℕ) × (v : View) × At views seat v × P v
 
--- a number of each view, added up
+-- the sum of a number over all views
 abbrev pub total : (View → ℕ) → List View → ℕ
 total f [] = 0
 total f (v ∷ vs) = f v + total f vs
 
--- 1 where a ticket is out
+-- 1 if a ticket is out
 abbrev pub out : Stage → ℕ
 out resting = 0
 out waiting = 1
@@ -48,7 +48,7 @@ is_live spent = false
 abbrev pub IsLive : View → Type 0
 IsLive v = is_live v.stage ≡ true
 
--- 1 where a pass is being made
+-- 1 if a pass is being made
 abbrev pub more : Bool → ℕ
 more true = 1
 more false = 0
@@ -57,7 +57,7 @@ more false = 0
 abbrev pub HasTicket : ℕ → View → Type 0
 HasTicket t v = (out v.stage ≡ 1) × (v.ticket ≡ t)
 
--- a ticket that is out is one that was drawn and is not yet served, or is the one that is served
+-- a ticket that is out was drawn and is not served yet, or is the one that is served
 abbrev pub InLine : ℕ → ℕ → ℕ → Stage → Type 0
 InLine served drawn ticket resting = Unit {0}
 InLine served drawn ticket waiting = (served ≤ ticket) × (ticket < drawn)
@@ -83,12 +83,12 @@ Fits start log limit made pending v waiting = Knows start log limit made pending
 Fits start log limit made pending v serving = Knows start log limit made pending v × (v.seen ≡ log)
 Fits start log limit made pending v spent = (v.held ≡ 0) × (v.own ≡ 0)
 
--- two passes have two numbers, and two tickets that are out differ
+-- two live passes have different numbers, and two tickets that are out differ
 abbrev pub Apart : View → View → Type 0
 Apart v w = (IsLive v → IsLive w → v.number ≢ w.number)
     × (out v.stage ≡ 1 → out w.stage ≡ 1 → v.ticket ≢ w.ticket)
 
--- it has seen the whole history
+-- the pass is live and has seen the whole history
 abbrev pub HasSeen : List Entry → View → Type 0
 HasSeen log v = IsLive v × (v.seen ≡ log)
 
@@ -114,18 +114,18 @@ module _ {A : Type 0} (origin : A → Origin) (history : A → List Entry) where
     pub start : Origin
     pub pending : Bool
     pub words : s.words ≡ (drawn % 2 ^ 64) ∷ (served % 2 ^ 64) ∷ (length log % 2 ^ 64) ∷ made ∷ []
-    -- tickets out: they are those from the one that is served up to the next to be drawn, each with
-    -- one view
+    -- the tickets that are out are those from the one that is served up to the next to be drawn,
+    -- each with one view
     pub in_line : (seat : ℕ) (v : View) → At s.views seat v → InLine served drawn v.ticket v.stage
     pub lined : (t : ℕ) → served ≤ t → t < drawn → Exists (HasTicket t) s.views
     pub tickets : total tickets_of s.views + served ≡ drawn
-    -- one served view, and the value at home has the history
+    -- one value: at home with the whole history, or out with the pass that has the turn
     pub home : Home s.homes s.views start log
-    -- one history of prefixes: the longest that is seen
+    -- one history: what each pass has seen is a prefix of it, and some pass has seen all of it
     pub fits : (seat : ℕ) (v : View) → At s.views seat v
         → Fits start log limit made pending v v.stage
     pub longest : Exists (HasSeen log) s.views
-    -- view and caller numbers
+    -- the numbers of views and callers
     pub apart : (i j : ℕ) (v w : View) → At s.views i v → At s.views j w → i ≢ j → Apart v w
     pub first : Exists IsFirst s.views
     pub parts : total held_of s.views ≡ made + more pending

@@ -5,15 +5,16 @@ use Rattle.account_lock.specs.Ties.{head_view}
 use Rattle.account_lock.specs.declared.pass.Pass.{Pass}
 use Rattle.account_lock.specs.declared.lock.Lock.{Lock}
 
--- what a pass stands for
+-- the view of a pass
 abbrev pub view : Pass → View
 view pass = head_view pass.badge.views
 
--- it has made no entry, and stands for itself alone
+-- the pass has made no entry, and stands for itself alone
 abbrev pub IsNew : View → Type 0
 IsNew v = (v.mine ≡ []) × (v.held ≡ 1) × (v.own ≡ 0) × (v.olds ≡ [])
 
--- all but what was seen stays
+-- the second view agrees with the first in origin, number, own entries, passes held and made, and
+-- olds
 abbrev pub IsSame : View → View → Type 0
 IsSame v w = (w.origin ≡ v.origin) × (w.number ≡ v.number) × (w.mine ≡ v.mine) × (w.held ≡ v.held)
     × (w.own ≡ v.own) × (w.olds ≡ v.olds) × (w.made ≡ v.made)
@@ -23,7 +24,7 @@ module _ {A : Type 0} where
   abbrev pub limit_of : Lock A → ℕ
   limit_of lock = lock.callers
 
-  -- the pass is of this lock
+  -- the pass belongs to this lock and is at rest
   abbrev pub IsOf : Lock A → Pass → Type 0
   IsOf lock pass = (pass.badge.table_id ≡ lock.table.shared.table_id) × (pass.badge.views
       ≡ view pass ∷ []) × ((view pass).stage ≡ resting) × ((view pass).limit ≡ lock.callers)

@@ -1,4 +1,4 @@
--- What a pass stores beside its view.
+-- What a pass stores besides its view.
 use Rattle.std.specs.Prelude.{◌≡◌, ℕ, List, [], ◌∷◌}
 use Rattle.account_core.specs.declared.calls.Entry.{Entry}
 use Rattle.account_core.specs.Histories.{calls_by}
@@ -12,6 +12,6 @@ head_view (v ∷ views) = v
 abbrev pub IsTied : View → ℕ → ℕ → ℕ → Type 0
 IsTied v number held made = (v.number ≡ number) × (v.held ≡ held) × (v.made ≡ made)
 
--- a view's own entries are those of its number that it has seen
+-- a view's own entries: those that it has seen with its number
 abbrev pub own_seen : View → List Entry
 own_seen v = calls_by v.number v.seen

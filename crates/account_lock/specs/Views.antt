@@ -4,7 +4,7 @@ use Rattle.account_core.specs.declared.calls.Entry.{Entry}
 use Rattle.account_core.specs.Histories.{Origin}
 use Rattle.account_lock.specs.Known.{View, resting, waiting, serving}
 
--- that of the first pass, where so many passes may be made
+-- the view of the first pass of a lock that may make this number of passes
 abbrev pub first_view : Origin → ℕ → View
 first_view origin limit = record {
   origin = origin;
@@ -24,14 +24,14 @@ first_view origin limit = record {
 abbrev pub with_ticket : View → ℕ → View
 with_ticket v t = record v { stage = waiting; ticket = t }
 
--- it has the turn, and has seen the whole history
+-- the pass has the turn, and has seen the whole history
 abbrev pub with_turn : View → List Entry → View
 with_turn v history = record v { stage = serving; seen = history }
 
 abbrev pub at_rest : View → View
 at_rest v = record v { stage = resting }
 
--- it has made this entry
+-- the pass has made this entry
 abbrev pub with_entry : View → Entry → View
 with_entry v entry = record v {
   seen = v.seen ++ entry ∷ [];
@@ -39,11 +39,11 @@ with_entry v entry = record v {
   own = v.own + 1;
 }
 
--- the first pass is making one
+-- the first pass is making another
 abbrev pub making : View → View
 making v = record v { pending = true }
 
--- the pass that is made
+-- the new pass
 abbrev pub newcomer : View → View
 newcomer v = record {
   origin = v.origin;
@@ -60,14 +60,14 @@ newcomer v = record {
   pending = false;
 }
 
--- the first pass has made one
+-- the first pass has made another
 abbrev pub having_made : View → View
 having_made v = record v { made = v.made + 1; pending = false }
 
 abbrev pub longer : List Entry → List Entry → List Entry
 longer xs ys = if ltb (length xs) (length ys) then ys else xs
 
--- v took w in
+-- w was joined into v
 abbrev pub joined : View → View → View
 joined v w = record v {
   seen = longer v.seen w.seen;

@@ -1,9 +1,9 @@
 //! The turn lock of an account: many threads, one history.
 //!
 //! A `Lock` has a value that stands for a history. A caller has a `Pass`, and `Lock::enter` gives
-//! it its `Turn`, in which it has the value alone and has seen all of the history; `Turn::commit`
-//! ends it with one entry more, `Turn::leave` with none. The first pass makes others, takes them
-//! back by `Lock::join`, and ends the lock by `Lock::close`.
+//! the pass its `Turn`. In its turn the pass alone has the value, and has seen all of the history.
+//! `Turn::commit` ends the turn with one more entry, and `Turn::leave` ends it with none. The first
+//! pass makes other passes, takes them back by `Lock::join`, and ends the lock by `Lock::close`.
 #![tactic(auto)]
 
 mod faults;

@@ -13,8 +13,8 @@ use std::mem;
 use std::snapshot::Snapshot;
 use std::sync::Wait;
 
-/// A value under a lock that its passes take in turn, in the order in which they ask. The value
-/// stands for a history, and all passes together for all of its entries.
+/// A value under a lock. The lock's passes take the value in turn, in the order in which they ask.
+/// The value stands for a history, and all passes together stand for all of its entries.
 #[derive(Drop)]
 pub struct Lock<V: Booked> {
     pub(crate) table: Table<Option<V>, View, (Snapshot<V>, u32), Order, Global>,
@@ -30,12 +30,12 @@ impl<V: Booked> Lock<V> {
     ghost use Rattle.account_lock.specs.Passes.{view, IsNew, IsSame, limit_of, IsOf};
     ghost use Rattle.account_lock.specs.Turns as turns;
 
-    /// A lock over a value whose history has no entry, of which at most `callers` passes may be
-    /// made, and its first pass.
+    /// A lock and its first pass. The value's history has no entry, and the lock may make at most
+    /// `callers` passes, the first included.
     ///
     /// # Errors
     ///
-    /// There was no memory. The value is handed back.
+    /// Memory ran out. The value is handed back.
     pub fn new(alloc: Global, value: V, callers: u32) -> Result<(Lock<V>, Pass), LockFault<V>>
         requires callers { 0 < callers }
         requires history { V.history value ≡ [] }
@@ -59,7 +59,7 @@ impl<V: Booked> Lock<V> {
         }
     }
 
-    /// Waits until it is the pass's turn. The pass has then seen the whole history.
+    /// Waits until it is the pass's turn. In its turn the pass has seen the whole history.
     pub fn enter<'a, R: Wait>(&'a self, rt: &R, pass: &'a mut Pass) -> Turn<'a, V>
         requires { IsOf self.now pass.old }
         ensures pass { turns.IsLent pass.entry result }
@@ -83,11 +83,11 @@ impl<V: Booked> Lock<V> {
         }
     }
 
-    /// One more pass, which has seen what the first pass has.
+    /// Makes one more pass, which has seen what the first pass has seen.
     ///
     /// # Errors
     ///
-    /// `Full` where as many passes were made as may be. Nothing changes.
+    /// `Full` if the lock has already made as many passes as it may. Nothing changes then.
     pub fn enlist(&self, first: &mut Pass) -> Result<Pass, Full>
         requires lock { IsOf self.now first.old }
         requires first { (view first.old).number ≡ 0 }
@@ -110,7 +110,7 @@ impl<V: Booked> Lock<V> {
         Ok(pass)
     }
 
-    /// Joins another pass into this one, which then stands for both.
+    /// Joins another pass into this pass, which then stands for both.
     pub fn join(&self, pass: &mut Pass, other: Pass)
         requires pass { IsOf self.now pass.old }
         requires other { IsOf self.now other × ((view other).number ≢ 0) }
@@ -121,7 +121,7 @@ impl<V: Booked> Lock<V> {
         *pass = self.join_chairs(chair, other.sit()).rise();
     }
 
-    /// Ends the lock, with the first pass, and gives the value with the whole history.
+    /// Ends the lock with its first pass, and returns the value with the whole history.
     ///
     /// # Errors
     ///

@@ -9,7 +9,7 @@ use account_core::Booked;
 use atomic_table::{Join, Play, Split, TableRule};
 use std::snapshot::Snapshot;
 
-/// The rule. A table is told the value at the start, and how many passes may be made.
+/// The rule. A table is given the value at the start, and the number of passes that may be made.
 pub struct Order;
 
 impl<V: Booked> TableRule<Option<V>, View, (Snapshot<V>, u32)> for Order {

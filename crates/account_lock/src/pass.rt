@@ -4,8 +4,8 @@ ghost use Rattle.account_lock.specs.Ties.{head_view, IsTied, own_seen};
 use crate::view::View;
 use atomic_table::{Badge, Seat};
 
-/// A caller's part in the one history of a lock. It knows the entries that it has seen and those
-/// that it made, and it stands for itself and for the passes that were joined into it.
+/// A caller's part in the one history of a lock. It knows which entries it has seen and which it
+/// made, and it stands for itself and for the passes that were joined into it.
 #[derive(Drop)]
 pub struct Pass {
     number: u32,
@@ -16,7 +16,7 @@ pub struct Pass {
     ghost own_entries: { own_seen (head_view badge.views) ≡ (head_view badge.views).mine },
 }
 
-/// A pass that steps on the lock's table.
+/// A pass that makes steps on the lock's table.
 pub(crate) struct Chair<V> {
     pub(crate) number: u32,
     pub(crate) held: u32,
@@ -33,14 +33,14 @@ impl Pass {
     ghost use Rattle.account_lock.specs.Views.{first_view};
     ghost use Rattle.account_lock.specs.Passes.{view};
 
-    /// How many passes it stands for: 1 when it is made.
+    /// How many passes this pass stands for: 1 when it is made.
     pub fn held(&self) -> u32
         ensures { result ≡ (view self.now).held }
     {
         self.held
     }
 
-    /// How many passes of its lock were made, itself included. Only the first pass, number 0,
+    /// How many passes of the lock were made, the first included. Only the first pass, number 0,
     /// knows.
     pub fn made(&self) -> u32
         requires { (view self.now).number ≡ 0 }
@@ -49,7 +49,7 @@ impl Pass {
         self.made
     }
 
-    /// What stands in a pass's place while it has the turn.
+    /// What is in a pass's place while the pass has the turn, or while it makes or joins another.
     pub(crate) fn blank() -> Pass
         ensures { view result ≡ nobody }
     {
@@ -61,7 +61,7 @@ impl Pass {
         }
     }
 
-    /// The first pass of a table that was made.
+    /// The first pass of a new table.
     pub(crate) fn first<V>(seat: Seat<Option<V>, View>) -> Pass
         requires { (x : Origin) × (limit : ℕ) × (seat.me ≡ (first_view x limit, [])) }
         ensures { (result.badge.table_id ≡ seat.table_id) × (result.badge.views ≡ seat.me.0 ∷ []) }

@@ -4,7 +4,7 @@ ghost use Rattle.std.specs.Prelude.{◌≡◌, [], ◌∷◌, IfOk, IfErr, IsSom
 use crate::faults::LockFault;
 use std::alloc::{AllocFailed, Global};
 
-/// The slot, with the value.
+/// The slot, with the value in it.
 pub(crate) fn one_slot<V>(alloc: Global, value: V) -> Result<Vec<Option<V>>, LockFault<V>>
     ensures ok { IfOk result (λ slots. slots.items ≡ Some value ∷ []) }
     ensures refused { IfErr result (λ fault. fault.value ≡ value) }

@@ -16,7 +16,7 @@ use atomic_table::Seat;
 use std::sync::Wait;
 use std::thread;
 
-/// The words of a lock's table: how many tickets were drawn, the ticket that is served, how many
+/// The words of a lock's table: how many tickets were drawn, which ticket is served, how many
 /// entries there are, and how many passes were made.
 const TICKET: usize = 0;
 
@@ -26,7 +26,7 @@ const COUNT: usize = 2;
 
 const CALLERS: usize = 3;
 
-/// How often a caller that waits yields before it sleeps.
+/// How often a waiting caller yields before it sleeps.
 const YIELDS: u32 = 64;
 
 impl<V: Booked> Lock<V> {
@@ -84,7 +84,7 @@ impl<V: Booked> Lock<V> {
         unreachable!()
     }
 
-    /// Yields, the first times, and from then on sleeps until another ticket than this one is
+    /// Yields the first `YIELDS` times. After that, sleeps until a ticket other than `serving` is
     /// served.
     fn pause<R: Wait>(&self, rt: &R, serving: u64, yields: u32) -> u32 {
         if yields < YIELDS {
@@ -96,7 +96,7 @@ impl<V: Booked> Lock<V> {
         yields
     }
 
-    /// Makes a pass, which the first pass counts.
+    /// Makes a pass, and the first pass counts it.
     pub(crate) fn make_pass(&self, chair: Chair<V>) -> (Chair<V>, Pass)
         requires lock { chair.seat.table_id ≡ self.now.table.shared.table_id }
         requires rests { (chair.seat.me.0.stage ≡ resting) × (chair.seat.me.1 ≡ [])
@@ -134,7 +134,7 @@ impl<V: Booked> Lock<V> {
         (chair, pass.rise())
     }
 
-    /// Joins the other into this one, which then stands for both.
+    /// Joins the other pass into this pass, which then stands for both.
     pub(crate) fn join_chairs(&self, chair: Chair<V>, other: Chair<V>) -> Chair<V>
         requires lock { (chair.seat.table_id ≡ self.now.table.shared.table_id)
             × (other.seat.table_id ≡ self.now.table.shared.table_id) }
@@ -189,8 +189,8 @@ impl<V: Booked> Lock<V> {
         }
     }
 
-    /// Counts the entry by which the value in the slot has grown: from now on it has its place in
-    /// the history.
+    /// Counts the entry that the value in the slot has gained: from now on the entry has its place
+    /// in the history.
     pub(crate) fn count(&self, chair: Chair<V>) -> Chair<V>
         requires lock { chair.seat.table_id ≡ self.now.table.shared.table_id }
         requires turn { chair.seat.me.0.stage ≡ serving }
@@ -216,7 +216,7 @@ impl<V: Booked> Lock<V> {
         }
     }
 
-    /// Gives the slot back, serves the next ticket, and wakes those that sleep for it.
+    /// Gives the slot back, serves the next ticket, and wakes the callers that sleep.
     pub(crate) fn serve_next(&self, chair: Chair<V>) -> Chair<V>
         requires lock { chair.seat.table_id ≡ self.now.table.shared.table_id }
         requires turn { chair.seat.me.0.stage ≡ serving }
@@ -244,7 +244,7 @@ impl<V: Booked> Lock<V> {
         }
     }
 
-    /// Ends the table, where the first pass stands for all passes, and takes the value.
+    /// Ends the table with the first pass, which stands for all passes, and takes the value.
     pub(crate) fn end(self, chair: Chair<V>) -> V
         requires lock { chair.seat.table_id ≡ self.table.shared.table_id }
         requires rests { (chair.seat.me.0.stage ≡ resting) × (chair.seat.me.0.pending ≡ false) }

@@ -7,8 +7,8 @@ use crate::lock::Lock;
 use crate::pass::{Chair, Pass};
 use account_core::Booked;
 
-/// The turn of a pass. While it lasts no other pass has the value. It must be ended by `commit` or
-/// by `leave`: it can't be let go.
+/// The turn of a pass. No other pass has the value during the turn. The caller must end it with
+/// `commit` or `leave`, since a turn can't be dropped.
 pub struct Turn<'a, V: Booked> {
     pub(crate) pass: &'a mut Pass,
     pub(crate) lock: &'a Lock<V>,
@@ -31,14 +31,14 @@ impl<V: Booked> Turn<'_, V> {
         &mut self.value
     }
 
-    /// The number of the pass, by which its entries name it.
+    /// The number of the pass. The pass's entries have it as their caller.
     pub fn caller(&self) -> u32
         ensures { result ≡ (view_in self.now).number }
     {
         self.chair.number
     }
 
-    /// Ends the turn, in which one entry with the pass's number was added to the value's history.
+    /// Ends a turn in which one entry with the pass's number was added to the value's history.
     pub fn commit(self)
         requires turn { IsTurnOf (lock_of self) self }
         requires entry { (e : Entry) × (e.caller ≡ (view_in self).number)
@@ -66,7 +66,7 @@ impl<V: Booked> Turn<'_, V> {
         *pass = lock.serve_next(lock.count(chair)).rise();
     }
 
-    /// Ends the turn, in which no entry was added to the value's history.
+    /// Ends a turn in which no entry was added to the value's history.
     pub fn leave(self)
         requires turn { IsTurnOf (lock_of self) self }
         requires history { (V.history (value_in self) ≡ (view_in self).seen)

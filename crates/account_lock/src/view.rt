@@ -1,7 +1,7 @@
 use std::marker::Model;
 
-/// What a thread knows that steps on a lock's words. It exists in proofs alone: contracts see it as
-/// the record `View`, and no value of it is made.
+/// What a thread that makes steps on a lock's words knows. It exists in proofs alone: contracts see
+/// it as the record `View`, and no value of it is made.
 pub struct View(());
 
 impl Model for View {

@@ -1,4 +1,4 @@
--- The bases of the files of an account: one that stands twice in its mailbox, and one that a
+-- The bases of the files of an account: a base that occurs twice in its mailbox, and a base that a
 -- delivery could have.
 use Rattle.std.specs.Prelude.{◌≡◌, ◌≤◌, ◌+◌, ◌-◌, ◌^◌, ℕ, zero, suc, min, Bool, ◌&&◌, nat_lt, nat_eq, List, [], ◌∷◌, ◌++◌, length, map, find, take, count_by, bytes_eq, codes, decimal, Option, Some, None, sum_by}
 use Rattle.std.specs.List.{starts_with, ends_with}
@@ -29,21 +29,21 @@ times_in files base = count_by (λ file. bytes_eq (base_in file) base) files
 abbrev pub noted : BTreeMap (Bor (List ℕ)) ℕ → List ℕ → Option ℕ
 noted notes base = get_by (λ key. slice_cmp nat_cmp base key.now) notes
 
--- what is noted of a base that stands so often: nothing, once, or twice and more
+-- what is noted of a base that occurs this often: nothing, 1 for once, or 2 for twice or more
 abbrev pub count_up_to_two : ℕ → Option ℕ
 count_up_to_two zero = None
 count_up_to_two (suc zero) = Some 1
 count_up_to_two (suc (suc n)) = Some 2
 
--- this is noted of each base of the files
+-- each base is noted as often as it occurs in the files, up to 2
 abbrev pub AreCounted : BTreeMap (Bor (List ℕ)) ℕ → List FileRow → Type 0
 AreCounted notes files = (base : List ℕ) → noted notes base ≡ count_up_to_two (times_in files base)
 
--- no base stands twice
+-- no base occurs twice
 abbrev pub AreApart : List FileRow → Type 0
 AreApart files = (base : List ℕ) → times_in files base ≤ 1
 
--- the first base that stands at another file of its mailbox too
+-- the first base that two or more of the files have
 abbrev pub double_in : List FileRow → Option (List ℕ)
 double_in files = option_map base_in (find (λ file. nat_lt 1 (times_in files (base_in file))) files)
 
@@ -59,16 +59,16 @@ is_of_epoch epoch base =
 abbrev pub used_in : ℕ → List FileRow → Option (List ℕ)
 used_in epoch files = option_map base_in (find (λ file. is_of_epoch epoch (base_in file)) files)
 
--- the first such base
+-- the first such base in all mailboxes
 abbrev pub first_used : ℕ → List (List FileRow) → Option (List ℕ)
 first_used epoch [] = None
 first_used epoch (files ∷ all) = option_or (used_in epoch files) (first_used epoch all)
 
--- a base as a refusal names it
+-- a base as a refusal names it: at most the first 255 bytes of it
 abbrev pub shown : List ℕ → List ℕ
 shown base = take 255 base
 
--- what these mailboxes come to
+-- the findings in these mailboxes
 abbrev pub findings_of : ℕ → List (List FileRow) → Findings
 findings_of epoch all = record {
   files = min (how_many_files all) (2 ^ 64 - 1);
@@ -76,11 +76,11 @@ findings_of epoch all = record {
   used = option_map shown (first_used epoch all);
 }
 
--- what no mailbox comes to
+-- the findings before any mailbox is listed
 abbrev pub no_findings : Findings
 no_findings = record { files = 0; double = None; used = None }
 
--- what some mailboxes come to with one more
+-- these findings with the files of one more mailbox
 abbrev pub with_files_of : ℕ → Findings → List FileRow → Findings
 with_files_of epoch found files = record {
   files = min (found.files + length files) (2 ^ 64 - 1);

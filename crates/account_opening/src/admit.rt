@@ -12,10 +12,10 @@ use quota_roots::Setup;
 use quota_units::Limits;
 use std::alloc::Global;
 
-/// The most messages of an account that is opened.
+/// The most messages that an account may have when it is opened.
 const MAX_MESSAGES: u64 = 1048576;
 
-/// What stands against these findings.
+/// Refuses the account if these findings prevent opening it.
 fn judge(found: Findings) -> Result<(), OpenError>
     ensures { IsJudged found result }
 {
@@ -36,16 +36,19 @@ fn judge(found: Findings) -> Result<(), OpenError>
     Ok(())
 }
 
-/// The limits of the account's roots, where nothing stands against its files: those that a root's
-/// ledger defines in its first line, or else those of the setup. No file is changed.
+/// The limits of the account's roots, if nothing in the account's files prevents opening it. The
+/// limits of a root are those that the first line of its ledger defines, or else those of the
+/// setup. No file is changed.
 ///
-/// All mailboxes are listed, then the files are looked at, and then the ledgers are read.
+/// The mailboxes are listed one after another, and the files of each are looked through. If nothing
+/// prevents opening the account, the ledgers are read then.
 ///
 /// # Errors
 ///
-/// `Store` where the store failed; `TooManyMessages` above 1048576 files in the mailboxes;
-/// `DoubleName` at the first file whose base another file of its mailbox has; `EpochUsed` at the
-/// first whose base begins with the epoch and a dot and ends with `.quotad`; and `NoMemory`.
+/// `Store` if the store failed. `TooManyMessages` if the mailboxes have more than 1048576 files.
+/// `DoubleName` if two files of a mailbox have one base; it names the first such base. `EpochUsed`
+/// if the base of a file begins with the epoch and a dot and ends with `.quotad`; it names the
+/// first such base. `NoMemory` if memory runs out.
 pub fn admit_files<K: Keeper>(
     alloc: Global,
     keeper: &mut K,

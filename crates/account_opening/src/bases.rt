@@ -1,4 +1,4 @@
-// The bases of a mailbox's files: one that stands twice, and one that a delivery could have.
+// The bases of a mailbox's files: a base that occurs twice, and a base that a delivery could have.
 ghost use Rattle.std.specs.Prelude.{◌≡◌, ◌++◌, ℕ, List, Some, is_some, unwrap_or, nat_lt, bytes_eq, codes, decimal, if◌then◌else◌, IfOk, MatchOption};
 ghost use Rattle.std.specs.Option.{option_map};
 ghost use Rattle.account_opening.specs.Bases.{AreApart, AreCounted, base_in, double_in, noted, shown, used_in};
@@ -15,7 +15,8 @@ fn base_in(file: &FileRow) -> &[u8]
     base_of(file.name.as_slice())
 }
 
-/// Notes one more file of this base, up to the second, and tells whether one was noted before.
+/// Notes one more file of this base, up to the second. Gives whether a file of this base was noted
+/// before.
 fn count_base<'a>(notes: &mut BTreeMap<&'a [u8], u8>, base: &'a [u8]) -> Result<bool, AllocError>
     ensures again { IfOk result (λ again. again ≡ is_some (noted notes.old base.now)) }
     ensures notes { IfOk result (λ again. (other : List ℕ) → noted notes.new other ≡ (if bytes_eq
@@ -28,8 +29,8 @@ fn count_base<'a>(notes: &mut BTreeMap<&'a [u8], u8>, base: &'a [u8]) -> Result<
     Ok(true)
 }
 
-/// Notes of each base whether it stands once, or twice and more, in the files; `None` where none
-/// stands twice.
+/// Notes for each base whether it occurs once, or twice or more, in the files. `None` if no base
+/// occurs twice.
 fn repeats_in<'a>(
     alloc: Global,
     files: &'a [FileRow],
@@ -46,7 +47,7 @@ fn repeats_in<'a>(
     if repeats { Ok(Some(notes)) } else { Ok(None) }
 }
 
-/// The first base that another of the files has too.
+/// The first base that two or more of the files have.
 pub(crate) fn double_in(alloc: Global, files: &[FileRow]) -> Result<Option<Name>, AllocError>
     ensures { IfOk result (λ found. found ≡ option_map shown (double_in files.now)) }
 {
@@ -72,8 +73,8 @@ fn is_repeated(notes: &BTreeMap<&[u8], u8>, base: &[u8]) -> bool
     }
 }
 
-/// The first base that begins with the epoch and a dot, as the prefix has them, and ends with
-/// `.quotad`.
+/// The first base that begins with the prefix and ends with `.quotad`. The prefix is the epoch and
+/// a dot.
 pub(crate) fn used_in(
     alloc: Global,
     epoch: u64,
@@ -92,7 +93,7 @@ pub(crate) fn used_in(
     Ok(None)
 }
 
-/// A base as a refusal names it.
+/// A base as a refusal names it: at most the first 255 bytes of it.
 fn show(alloc: Global, base: &[u8]) -> Result<Name, AllocError>
     ensures { IfOk result (λ name. name ≡ shown base.now) }
 {

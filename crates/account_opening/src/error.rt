@@ -10,16 +10,16 @@ use thiserror::Error;
 /// Why an account is not opened.
 #[derive(Debug, Drop, Error)]
 pub enum OpenError {
-    /// The store failed, which the keeper has counted.
+    /// The store failed. The keeper has counted the failure.
     #[error("the store is unavailable")]
     Store,
     /// There are more than 1048576 files in the account's mailboxes.
     #[error("{found} messages are too many")]
     TooManyMessages { found: u64 },
-    /// Two files of a mailbox have this base, of which at most 255 bytes are shown.
+    /// Two files of a mailbox have this base. At most 255 bytes of it are shown.
     #[error("two files of a mailbox have one base")]
     DoubleName { name: Name },
-    /// A delivery of this epoch could have this base, of which at most 255 bytes are shown.
+    /// A delivery of this epoch could have this base. At most 255 bytes of it are shown.
     #[error("a file has a base of this epoch")]
     EpochUsed { name: Name },
     #[error("out of memory")]

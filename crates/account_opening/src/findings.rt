@@ -1,5 +1,5 @@
-// What stands against opening an account, mailbox by mailbox: no listing is kept behind its
-// mailbox.
+// Looking for what prevents opening an account, mailbox by mailbox. The listing of a mailbox is
+// dropped before the next mailbox is listed.
 ghost use Rattle.std.specs.Prelude.{◌+◌, ◌≡◌, ◌++◌, codes, decimal, IfOk, IsErrOf};
 ghost use Rattle.quota_units.specs.Causes.{HasCause};
 ghost use Rattle.keeper.specs.Calls.{Changes, Spends};
@@ -11,19 +11,19 @@ use keeper::{FileRow, KeepError, Keeper};
 use quota_units::Name;
 use std::alloc::{AllocError, Global};
 
-/// What the mailboxes that were listed so far come to.
+/// What was found in the mailboxes that were listed so far.
 #[derive(Debug, Drop)]
 pub(crate) struct Findings {
-    /// How many files they have, up to 2^64 - 1.
+    /// How many files these mailboxes have, up to 2^64 - 1.
     pub(crate) files: u64,
-    /// The first base that another file of its mailbox has too.
+    /// The first base that two files of its mailbox have.
     pub(crate) double: Option<Name>,
     /// The first base that a delivery of the epoch could have.
     pub(crate) used: Option<Name>,
 }
 
 impl Findings {
-    /// What no mailbox comes to.
+    /// The findings before any mailbox is listed.
     fn none() -> Findings
         ensures { result ≡ no_findings }
     {
@@ -34,7 +34,7 @@ impl Findings {
         }
     }
 
-    /// What these come to with the files of one more mailbox. The prefix is the epoch and a dot.
+    /// These findings with the files of one more mailbox. The prefix is the epoch and a dot.
     fn with(
         self,
         alloc: Global,

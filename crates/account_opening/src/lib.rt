@@ -1,5 +1,5 @@
-//! What the files of an account tell when it is opened: the limits of its quota roots, and what
-//! stands against opening it.
+//! What is read from an account's files when the account is opened: the limits of its quota roots,
+//! and anything that prevents opening it.
 #![tactic(auto)]
 
 mod admit;

@@ -1,4 +1,4 @@
-// The limits that ledgers tell.
+// The limits that ledgers define.
 ghost use Rattle.std.specs.Prelude.{◌+◌, ◌≡◌, ◌≤◌, length, IfOk, IsErrOf};
 ghost use Rattle.std.specs.Option.{option_map};
 ghost use Rattle.quota_units.specs.Causes.{HasCause};
@@ -10,7 +10,8 @@ use maildirsize::definition_of;
 use quota_units::Limits;
 use std::alloc::Global;
 
-/// The limits of each root: those that its ledger's first line defines, or else its own.
+/// The limits of each root: those that the first line of its ledger defines, or else those in
+/// `own`.
 pub(crate) fn read_limits<K: Keeper>(
     alloc: Global,
     keeper: &mut K,

@@ -12,13 +12,13 @@ use Rattle.accounts_file.specs.Refusals.{first_in, at_most}
 use Rattle.accounts_file.specs.Values.{number_at, number_refusal, flag_at, flag_refusal, text_at, needed_text_refusal, texts_at, texts_refusal, items_at}
 use Rattle.accounts_file.specs.RootTables.{tables_refusal, specs_of, all_limits, members_in, root_tables, roots_refusal, AreRootsRead}
 
--- the names but the first of this one
+-- the names without the first that is this one
 abbrev pub without_first : List ℕ → List (List ℕ) → List (List ℕ)
 without_first name [] = []
 without_first name (other ∷ names) =
     if bytes_eq other name then names else other ∷ without_first name names
 
--- INBOX, and behind it the other names
+-- INBOX, and after it the other names
 abbrev pub with_inbox : List (List ℕ) → List (List ℕ)
 with_inbox names = codes "INBOX" ∷ without_first (codes "INBOX") names
 
@@ -37,7 +37,7 @@ account_refusal account =
     ∷ flag_refusal Admin account ∷ number_refusal Journal account ∷ texts_refusal Recipients account
     ∷ mailboxes_refusal account ∷ roots_refusal account ∷ [])
 
--- the account
+-- the account of a table
 abbrev pub account_of : Members → AccountEntry
 account_of account =
     record {

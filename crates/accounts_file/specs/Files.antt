@@ -14,7 +14,7 @@ use Rattle.accounts_file.specs.Accounts.{accounts_of, accounts_refusal}
 use Rattle.accounts_file.specs.Doubles.{doubles_refusal}
 use Rattle.accounts_file.specs.Hosts.{Hosts}
 
--- the table that bytes write in TOML 1.1
+-- the table that bytes spell in TOML 1.1
 abbrev pub document : List ℕ → Option Members
 document bytes = if is_utf8 bytes then parse_document bytes else None
 
@@ -31,7 +31,7 @@ settings_of file =
       workers = unwrap_or (number_at Workers file) 2;
     }
 
--- the journals of all accounts together
+-- the sum of the journals of all accounts
 abbrev pub all_journals : List AccountEntry → ℕ
 all_journals accounts = sum_by (λ account. account.setup.journal) accounts
 

@@ -16,7 +16,7 @@ pub record Hosts : Type 0 where
   pub accounts : List AccountEntry
   pub epoch : ℕ
 
--- accounts of which no two have one name or one token
+-- no two of the accounts share a name or a token
 pub record AreDifferent (accounts : List AccountEntry) : Type 0 where
   pub names : are_different (map (λ (account : AccountEntry). account.name) accounts) ≡ true
   pub tokens : are_different (map (λ (account : AccountEntry). account.token) accounts) ≡ true
@@ -36,7 +36,7 @@ named accounts name = position (λ account. bytes_eq account.name name) accounts
 abbrev pub is_secret_of : List ℕ → List ℕ → Bool
 is_secret_of kept given = not (nat_eq (length kept) 0) && bytes_eq kept given
 
--- the account of this name, where it has this password
+-- the account of this name, if it has this password
 abbrev pub logged_in : List AccountEntry → List ℕ → List ℕ → Option ℕ
 logged_in accounts name password = position (λ account. bytes_eq account.name name
     && is_secret_of account.password password) accounts
@@ -45,7 +45,8 @@ logged_in accounts name password = position (λ account. bytes_eq account.name n
 abbrev pub holder : List AccountEntry → List ℕ → Option ℕ
 holder accounts token = position (λ account. is_secret_of account.token token) accounts
 
--- each account is the one that its own name, password and token find
+-- each account is found by its own name, by its name and password unless the password is empty, and
+-- by its token unless the token is empty
 pub record AreToldApart (accounts : List AccountEntry) : Type 0 where
   pub by_name : (account : ℕ) (entry : AccountEntry) → slice_get accounts account ≡ Some entry
       → named accounts entry.name ≡ Some account
@@ -54,12 +55,12 @@ pub record AreToldApart (accounts : List AccountEntry) : Type 0 where
   pub by_token : (account : ℕ) (entry : AccountEntry) → slice_get accounts account ≡ Some entry
       → 0 < length entry.token → holder accounts entry.token ≡ Some account
 
--- the account among whose recipients the address is, in any ASCII case
+-- the account that has the address among its recipients, in any ASCII case
 abbrev pub receiver : List AccountEntry → List ℕ → Option ℕ
 receiver accounts address = position (λ account.
     list_any (λ recipient. str_eq_ignore_ascii_case recipient address) account.recipients) accounts
 
--- the port of a protocol's listener, where it is to be opened
+-- the port of a protocol's listener; none if the listener is not opened
 abbrev pub port_of : Settings → Wire → Option ℕ
 port_of settings Imap = settings.imap
 port_of settings Jmap = settings.jmap
@@ -78,7 +79,7 @@ plain_setup limits =
       journal = 65536;
     }
 
--- the account `main`, which may set limits, and to which nobody logs in
+-- the account `main`, which may set limits, and to which nobody can log in
 abbrev pub plain_account : LimitNumbers → AccountEntry
 plain_account limits =
     record {

@@ -1,4 +1,4 @@
--- The keys of an accounts file, and the values that stand at them.
+-- The keys of an accounts file, and their values.
 use Rattle.std.specs.Prelude.{ℕ, List, codes, Option}
 use Rattle.toml.specs.Data.{Data, Members, get_member}
 use Rattle.accounts_file.specs.declared.key.Key.{Key}

@@ -4,7 +4,7 @@ use Rattle.accounts_file.specs.declared.key.Key.{Key}
 use Rattle.accounts_file.specs.declared.error.AccountsError.{AccountsError}
 use Rattle.accounts_file.specs.declared.error.AccountsError.TheVariants.{Missing, BadValue, Double, TooMany, NoMemory}
 
--- the first refusal of a list of what may be refused, in order
+-- the first refusal in a list, if there is one
 abbrev pub first_in : List (Option AccountsError) → Option AccountsError
 first_in [] = None
 first_in (None ∷ rest) = first_in rest
@@ -15,32 +15,31 @@ abbrev pub judged : Key → Bool → Option AccountsError
 judged key true = None
 judged key false = Some (BadValue key)
 
--- a value that need not be there, and whether it is good where it is
+-- the refusal of a value that may be missing: it is refused only if it is there and not good
 abbrev pub optional : Key → Option Bool → Option AccountsError
 optional key None = None
 optional key (Some good) = judged key good
 
--- a value that must be there, and whether it is good where it is
+-- the refusal of a value that must be there and must be good
 abbrev pub needed : Key → Option Bool → Option AccountsError
 needed key None = Some (Missing key)
 needed key (Some good) = judged key good
 
--- a list of this length at the key, and the most that it may have
+-- the refusal of a list at the key with `count` items, if that is more than `most`
 abbrev pub at_most : Key → ℕ → ℕ → Option AccountsError
 at_most key most count = if nat_le count most then None else Some (TooMany key)
 
--- a name that stands twice
+-- the refusal of a name that occurs twice
 abbrev pub double : Option (List ℕ) → Option AccountsError
 double None = None
 double (Some name) = Some (Double name)
 
--- what was read is this value, and nothing is refused; or this is the refusal; or there was no
--- memory
+-- what was read is this value, and nothing is refused; or this is the refusal; or memory ran out
 abbrev pub Reads : {A : Type 0} → Option AccountsError → A → Result A AccountsError → Type 0
 Reads refusal value result = MatchResult result (λ read. (refusal ≡ None)
     × (read ≡ value)) (λ e. (e ≡ NoMemory) ⊎ (refusal ≡ Some e))
 
--- nothing is refused; or this is the refusal; or there was no memory
+-- nothing is refused; or this is the refusal; or memory ran out
 abbrev pub Checks : {A : Type 0} → Option AccountsError → Result A AccountsError → Type 0
 Checks refusal result =
     MatchResult result (λ _. refusal ≡ None) (λ e. (e ≡ NoMemory) ⊎ (refusal ≡ Some e))

@@ -25,7 +25,7 @@ some_tables (Some values) = nat_le 1 (length values) && list_all is_table values
 abbrev pub are_tables : Data → Bool
 are_tables value = some_tables (items_of value)
 
--- what is refused of such a list at the key, and the most that it may have
+-- what is refused of the value at the key, which must be a list of 1 to `most` tables
 abbrev pub tables_refusal : Key → ℕ → Data → Option AccountsError
 tables_refusal key most value = first_in
     (judged key (are_tables value) ∷ at_most key most (length (unwrap_or (items_of value) [])) ∷ [])
@@ -60,7 +60,7 @@ limits_of members = record {
   count = number_at Messages members;
 }
 
--- the members of a table; none of another value
+-- the members of a table; a value that is not a table has none
 abbrev pub members_or_none : Option Members → Members
 members_or_none None = no_members
 members_or_none (Some members) = members
@@ -68,7 +68,7 @@ members_or_none (Some members) = members
 abbrev pub members_in : Data → Members
 members_in value = members_or_none (as_table value)
 
--- what is refused of the value that stands for the root of this number
+-- what is refused of the value that gives the root of this number
 abbrev pub root_value_refusal : ℕ → Option Members → Option AccountsError
 root_value_refusal root None = Some (BadValue Root)
 root_value_refusal root (Some members) = root_refusal root members
@@ -84,7 +84,7 @@ specs_of values = map (λ value. spec_of (members_in value)) values
 abbrev pub all_limits : List Data → List LimitNumbers
 all_limits values = map (λ value. limits_of (members_in value)) values
 
--- the tables of an account's roots; where it has none, an empty one
+-- the tables of an account's roots; one empty table if the account has none
 abbrev pub tables_or_one : Option Data → List Data
 tables_or_one None = table no_members ∷ []
 tables_or_one (Some value) = unwrap_or (items_of value) []

@@ -1,4 +1,4 @@
--- What may stand at a key of an accounts file. The ranges are this project's own.
+-- What a key of an accounts file may have as its value. The ranges are this project's own choice.
 use Rattle.std.specs.Prelude.{ℕ, Bool, false, not, ◌&&◌, ◌||◌, List, length, codes, nat_eq, nat_le, bytes_eq}
 use Rattle.std.specs.List.{list_all, starts_with}
 use Rattle.std.specs.Char.{is_ascii_alphanumeric}
@@ -21,7 +21,7 @@ is_account_name name = (nat_le 1 (length name) && nat_le (length name) 64)
 abbrev pub is_secret_byte : ℕ → Bool
 is_secret_byte byte = nat_le 0x21 byte && nat_le byte 0x7E
 
--- 1 to 64 such bytes
+-- 1 to 64 bytes of a password or a token
 abbrev pub is_secret : List ℕ → Bool
 is_secret secret =
     (nat_le 1 (length secret) && nat_le (length secret) 64) && list_all is_secret_byte secret
@@ -30,13 +30,14 @@ is_secret secret =
 abbrev pub is_prefix : List ℕ → Bool
 is_prefix prefix = is_mailbox_name prefix && not (bytes_eq prefix (codes "Trash"))
 
--- how a text at the key is kept: mailbox names in their one spelling, and others as they are
+-- how a text at the key is kept: mailbox names in canonical spelling, and other texts as they are
 abbrev pub spelling : Key → List ℕ → List ℕ
 spelling Mailboxes text = canonical text
 spelling Prefix text = canonical text
 spelling _ text = text
 
--- the text, as it is kept, may stand at the key; numbers and lists are no texts
+-- the key may have this text, which is spelled as it is kept; keys of numbers, flags and tables
+-- have no texts
 abbrev pub is_right : Key → List ℕ → Bool
 is_right AccountName text = is_account_name text
 is_right Password text = is_secret text
@@ -47,7 +48,7 @@ is_right RootName text = is_root_name text
 is_right Prefix text = is_prefix text
 is_right _ text = false
 
--- the text may stand at the key; none has more than 255 bytes
+-- the key may have this text; no text may have more than 255 bytes
 abbrev pub fits : Key → List ℕ → Bool
 fits key text = nat_le (length text) 255 && is_right key (spelling key text)
 

@@ -1,4 +1,4 @@
--- What the values of a table of an accounts file are read as.
+-- How the values in a table of an accounts file are read.
 use Rattle.std.specs.Prelude.{ℕ, ℤ, pos, negsuc, Bool, false, List, [], ◌∷◌, map, Option, None, Some, is_some, unwrap_or, if◌then◌else◌}
 use Rattle.std.specs.List.{list_all}
 use Rattle.std.specs.Option.{option_map, option_and_then}
@@ -14,7 +14,7 @@ whole_number key None = None
 whole_number key (Some (pos n)) = if is_number key n then Some n else None
 whole_number key (Some (negsuc n)) = None
 
--- the number that the value is, where it may stand at the key
+-- the number that the value is, if the key may have it
 abbrev pub number_of : Key → Data → Option ℕ
 number_of key value = whole_number key (as_integer value)
 
@@ -22,7 +22,7 @@ abbrev pub kept_text : Key → Option (List ℕ) → Option (List ℕ)
 kept_text key None = None
 kept_text key (Some text) = if fits key text then Some (spelling key text) else None
 
--- the text that the value is, as it is kept, where it may stand at the key
+-- the text that the value is, as it is kept, if the key may have it
 abbrev pub text_of : Key → Data → Option (List ℕ)
 text_of key value = kept_text key (as_str value)
 
@@ -44,11 +44,11 @@ abbrev pub are_all : (Data → Bool) → Option (List Data) → Bool
 are_all good None = false
 are_all good (Some items) = list_all good items
 
--- the value is a list of texts that may stand at the key
+-- the value is a list of texts that the key may have
 abbrev pub are_texts : Key → Data → Bool
 are_texts key value = are_all (is_text key) (items_of value)
 
--- what stands at a key: a number, a flag, a text, and the items of a list
+-- what is at a key: a number, a flag, a text, and the items of a list
 abbrev pub number_at : Key → Members → Option ℕ
 number_at key table = option_and_then (number_of key) (value_at key table)
 
@@ -64,7 +64,7 @@ items_at key table = unwrap_or (option_and_then items_of (value_at key table)) [
 abbrev pub texts_at : Key → Members → List (List ℕ)
 texts_at key table = map (text_or_empty key) (items_at key table)
 
--- what is refused at a key, where the value is not of its kind and range
+-- what is refused at a key if the value does not have its kind and range
 abbrev pub number_refusal : Key → Members → Option AccountsError
 number_refusal key table =
     optional key (option_map (λ value. is_some (number_of key value)) (value_at key table))

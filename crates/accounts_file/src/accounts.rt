@@ -16,7 +16,7 @@ use quota_units::Name;
 use std::alloc::Global;
 use toml::{Table, Value};
 
-/// INBOX, and behind it the other names. The first INBOX among the names is taken out.
+/// INBOX, and after it the names without their first INBOX.
 fn with_inbox(alloc: Global, names: Vec<Name>) -> Result<Vec<Name>, AccountsError>
     ensures { MatchResult result (λ mailboxes. mailboxes.items ≡ with_inbox names.items)
         (λ e. e ≡ AccountsError.NoMemory) }
@@ -26,7 +26,7 @@ fn with_inbox(alloc: Global, names: Vec<Name>) -> Result<Vec<Name>, AccountsErro
     Ok(mailboxes)
 }
 
-/// The names but the first INBOX.
+/// The names without the first INBOX.
 #[tactic(auto, using(crate::proofs::RuleLemmas::without_at, crate::proofs::RuleLemmas::without_nowhere))]
 fn without_inbox(names: Vec<Name>) -> Vec<Name>
     ensures { result.items ≡ without_first (codes "INBOX") names.items }

@@ -24,7 +24,7 @@ fn has(names: &[Name], name: &Name) -> bool
     names.iter().any(|other| other.as_slice() == bytes)
 }
 
-/// The first of the names that stood before.
+/// The first name that is the same as an earlier one.
 #[tactic(auto, using(crate::proofs::DoubleLemmas::repeat_here, crate::proofs::DoubleLemmas::repeat_on, crate::proofs::DoubleLemmas::repeat_nowhere))]
 fn repeated(names: &[Name]) -> Option<&Name>
     ensures { option_map (λ name. name.now) result ≡ repeated names.now }
@@ -50,7 +50,7 @@ fn in_lower_case(alloc: Global, names: &[Name]) -> Result<Vec<Vec<u8>>, AllocErr
     Ok(lower)
 }
 
-/// Notes a text, and tells whether it was noted before.
+/// Inserts a text, and returns whether it was there before.
 #[tactic(auto, using(crate::proofs::DoubleLemmas::noted_one))]
 fn insert_text<'a>(notes: &mut BTreeMap<&'a [u8], ()>, text: &'a [u8]) -> Result<bool, AllocError>
     ensures again { IfOk result (λ again. again ≡ is_inserted notes.old text.now) }
@@ -60,7 +60,7 @@ fn insert_text<'a>(notes: &mut BTreeMap<&'a [u8], ()>, text: &'a [u8]) -> Result
     Ok(notes.insert(text, ())?.is_some())
 }
 
-/// The first of the names that stood before, in any ASCII case.
+/// The first name that is the same as an earlier one in any ASCII case.
 #[tactic(auto, using(crate::proofs::DoubleLemmas::repeat_here, crate::proofs::DoubleLemmas::repeat_on, crate::proofs::DoubleLemmas::repeat_nowhere, crate::proofs::DoubleLemmas::noted_more, crate::proofs::DoubleLemmas::noted_before, crate::proofs::DoubleLemmas::lower_at))]
 fn repeated_in_any_case<'a>(
     alloc: Global,
@@ -79,7 +79,7 @@ fn repeated_in_any_case<'a>(
     Ok(None)
 }
 
-/// The refusal of a name that stands twice.
+/// The refusal of a name that occurs twice.
 fn double_of(alloc: Global, name: &Name) -> AccountsError
     ensures { (result ≡ AccountsError.NoMemory) ⊎ (result ≡ AccountsError.Double name.now) }
 {
@@ -89,7 +89,7 @@ fn double_of(alloc: Global, name: &Name) -> AccountsError
     }
 }
 
-/// Refuses names of which one stands twice.
+/// Refuses names if one occurs twice.
 fn check_names(alloc: Global, names: &[Name]) -> Result<(), AccountsError>
     ensures { Checks (double (repeated names.now)) result }
 {
@@ -99,7 +99,7 @@ fn check_names(alloc: Global, names: &[Name]) -> Result<(), AccountsError>
     }
 }
 
-/// Refuses addresses of which one stands twice.
+/// Refuses addresses if one occurs twice, in any ASCII case.
 fn check_recipients(alloc: Global, addresses: &[Name]) -> Result<(), AccountsError>
     ensures { Checks (double (repeated_in_any_case addresses.now)) result }
 {
@@ -109,7 +109,7 @@ fn check_recipients(alloc: Global, addresses: &[Name]) -> Result<(), AccountsErr
     }
 }
 
-/// Refuses roots of which one has the name of one before it.
+/// Refuses roots if one has the name of an earlier root.
 fn check_roots(alloc: Global, specs: &[RootSpec]) -> Result<(), AccountsError>
     ensures refused { Checks (double (repeated_root specs.now)) result }
     ensures different { OnOk result (first_double specs.now ≡ None) }
@@ -120,7 +120,7 @@ fn check_roots(alloc: Global, specs: &[RootSpec]) -> Result<(), AccountsError>
     }
 }
 
-/// The account, where none of its mailboxes and none of its roots stands twice.
+/// The account, if no mailbox occurs twice in it and no two of its roots share a name.
 fn entry_of(alloc: Global, draft: Draft) -> Result<AccountEntry, AccountsError>
     ensures reads { Reads (own_double draft) draft result }
     ensures sound { IfOk result (λ entry. IsSound entry.setup) }
@@ -143,7 +143,7 @@ fn entry_of(alloc: Global, draft: Draft) -> Result<AccountEntry, AccountsError>
     })
 }
 
-/// The accounts, where none has a mailbox or a root twice.
+/// The accounts, if no mailbox or root name occurs twice in one account.
 fn entries_of(alloc: Global, drafts: Vec<Draft>) -> Result<Vec<AccountEntry>, AccountsError>
     ensures ok { IfOk result (λ entries. (first_in (map own_double drafts.items) ≡ None)
         × (entries.items ≡ drafts.items)) }
@@ -158,7 +158,7 @@ fn entries_of(alloc: Global, drafts: Vec<Draft>) -> Result<Vec<AccountEntry>, Ac
     Ok(entries)
 }
 
-/// Adds copies of the names at the end of others.
+/// Adds copies of the names at the end of `to`.
 fn copy_names(alloc: Global, names: &[Name], to: &mut Vec<Name>) -> Result<(), AccountsError>
     ensures ok { OnOk result (to.new.items ≡ to.old.items ++ names.now) }
     ensures err { IfErr result (λ e. e ≡ AccountsError.NoMemory) }
@@ -203,7 +203,8 @@ fn all_recipients(alloc: Global, drafts: &[Draft]) -> Result<Vec<Name>, Accounts
     Ok(names)
 }
 
-/// The accounts, where no name, token, recipient, mailbox or root stands twice.
+/// The accounts, if no account name, token or recipient occurs twice, and no mailbox or root name
+/// occurs twice in one account.
 #[tactic(auto, using(crate::proofs::DoubleLemmas::no_double))]
 pub(crate) fn different_accounts(
     alloc: Global,

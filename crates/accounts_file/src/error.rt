@@ -6,23 +6,23 @@ use thiserror::Error;
 /// Why an accounts file is refused.
 #[derive(Debug, Drop, Error)]
 pub enum AccountsError {
-    /// The bytes are no TOML text.
+    /// The bytes are not a TOML text.
     #[error("not TOML")]
     NotToml,
-    /// A key that must be there is not.
+    /// A required key is not there.
     #[error("missing {key}")]
     Missing { key: Key },
-    /// A value is not of its key's kind or range.
+    /// A value does not have its key's kind, or is out of its range.
     #[error("bad {key}")]
     BadValue { key: Key },
-    /// A name stands twice: of an account, a token, a recipient, a mailbox of an account or a quota
-    /// root of one.
+    /// A name occurs twice: the name of an account, a token, a recipient, a mailbox of one account,
+    /// or the name of a quota root of one account.
     #[error("a name stands twice")]
     Double { name: Name },
     /// A list is too long.
     #[error("too many {key}")]
     TooMany { key: Key },
-    /// There was no memory.
+    /// Memory ran out.
     #[error("out of memory")]
     NoMemory,
 }

@@ -17,14 +17,15 @@ use toml::Table;
 /// The most entries that the histories of all accounts may have together.
 const MAX_JOURNALS: u64 = 4194304;
 
-/// The table of an accounts file in TOML, whose host is opened at this epoch.
+/// The table of the host that an accounts file in TOML describes. The host is opened at this epoch.
 ///
 /// # Errors
 ///
-/// The first refusal, in this order: `NotToml`; key by key `Missing`, `BadValue` and `TooMany`,
-/// with the accounts in the file's order and the roots of each in theirs; `Double` of a name, a
-/// token, a recipient, a mailbox or a root's name; `BadValue` of `journal` where all journals
-/// together are above 4194304. `NoMemory` may come in place of any.
+/// The first refusal, in this order: `NotToml`; key by key `Missing`, `BadValue` and `TooMany`, for
+/// the accounts in the file's order and the roots of each account in their order; `Double` for an
+/// account's name, a token, a recipient, a mailbox or a root's name; `BadValue` for `journal` if
+/// the journals of all accounts add up to more than 4194304. If memory runs out, the error is
+/// `NoMemory` instead.
 pub fn read_accounts(alloc: Global, bytes: &[u8], epoch: u64) -> Result<HostTable, AccountsError>
     ensures accepted { IfOk result (λ table. (refusal_of bytes.now ≡ None)
         × (table ≡ hosts_of bytes.now epoch)) }
@@ -44,7 +45,7 @@ pub fn read_accounts(alloc: Global, bytes: &[u8], epoch: u64) -> Result<HostTabl
     })
 }
 
-/// The table that the bytes write.
+/// The TOML table that the bytes spell.
 #[tactic(auto, using(crate::proofs::FileLemmas::written, crate::proofs::FileLemmas::not_written))]
 fn parse(alloc: Global, bytes: &[u8]) -> Result<Table, AccountsError>
     ensures ok { IfOk result (λ table. document bytes.now ≡ Some (table_view table)) }
@@ -58,7 +59,7 @@ fn parse(alloc: Global, bytes: &[u8]) -> Result<Table, AccountsError>
     }
 }
 
-/// Refuses journals that are too long together.
+/// Refuses accounts whose journals add up to more than their limit.
 fn check_journals(accounts: &[AccountEntry]) -> Result<(), AccountsError>
     ensures { Checks (journals_refusal accounts.now) result }
 {
@@ -69,7 +70,7 @@ fn check_journals(accounts: &[AccountEntry]) -> Result<(), AccountsError>
     }
 }
 
-/// Whether all journals together are within their limit.
+/// Whether the journals of all accounts add up to at most 4194304.
 fn have_room(accounts: &[AccountEntry]) -> bool
     ensures { IsTrue result ↔ (all_journals accounts.now ≤ 4194304) }
 {

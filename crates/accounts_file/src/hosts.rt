@@ -10,8 +10,8 @@ use quota_units::Name;
 use std::marker::Model;
 use wire_io::Wire;
 
-/// The accounts of a host, with its listeners and the epoch of its names. Accounts are numbered by
-/// their places, from 0 on.
+/// The accounts of a host, with its listeners and the epoch of its names. An account's number is
+/// its place, counted from 0.
 #[derive(Drop)]
 pub struct HostTable {
     pub(crate) settings: Settings,
@@ -59,8 +59,8 @@ impl HostTable {
         named(&self.accounts, name).map(|at| at as u32)
     }
 
-    /// The number of the account of this name, where this is its password. An empty password is
-    /// none.
+    /// The number of the account of this name, if this is its password. Nobody can log in to an
+    /// account with an empty password.
     pub fn login(&self, name: &[u8], password: &[u8]) -> Option<u32>
         ensures value { result ≡ logged_in self.now.accounts name.now password.now }
         ensures within { IfSome result (λ account. account < length self.now.accounts) }
@@ -68,7 +68,7 @@ impl HostTable {
         logged_in(&self.accounts, name, password).map(|at| at as u32)
     }
 
-    /// The number of the account that has this token. An empty token is none.
+    /// The number of the account that has this token. An empty token belongs to no account.
     pub fn token(&self, token: &[u8]) -> Option<u32>
         ensures value { result ≡ holder self.now.accounts token.now }
         ensures within { IfSome result (λ account. account < length self.now.accounts) }
@@ -76,14 +76,16 @@ impl HostTable {
         holder(&self.accounts, token).map(|at| at as u32)
     }
 
-    /// A law: each account is the one that its own name, password and token find.
+    /// A law: each account is found by its own name, by its name and password unless the password
+    /// is empty, and by its token unless the token is empty.
     pub fn tells_accounts_apart(&self)
         ensures { AreToldApart self.now.accounts }
     {
         let _count = self.count();
     }
 
-    /// The number of the account that gets mail for this address, in any ASCII case.
+    /// The number of the account that gets the mail for this address. Addresses are compared in any
+    /// ASCII case.
     pub fn recipient(&self, address: &[u8]) -> Option<u32>
         ensures value { result ≡ receiver self.now.accounts address.now }
         ensures within { IfSome result (λ account. account < length self.now.accounts) }
@@ -91,15 +93,15 @@ impl HostTable {
         receiver(&self.accounts, address).map(|at| at as u32)
     }
 
-    /// The epoch in the names of messages that are delivered: seconds since 1970, as the host was
-    /// opened.
+    /// The epoch in the names of delivered messages: the seconds from 1970 to the opening of the
+    /// host.
     pub fn epoch(&self) -> u64
         ensures { result ≡ self.now.epoch }
     {
         self.epoch
     }
 
-    /// The port of this protocol's listener, where it is to be opened.
+    /// The port of this protocol's listener; `None` if the listener is not opened.
     pub fn port(&self, wire: Wire) -> Option<u16>
         ensures { result ≡ port_of self.now.settings wire }
     {
@@ -155,7 +157,7 @@ fn receiver(accounts: &[AccountEntry], address: &[u8]) -> Option<usize>
     accounts.iter().position(|account| has_address(account.recipients.as_slice(), address))
 }
 
-/// Whether a secret is there and is the one that is given.
+/// Whether the kept secret is not empty and equals the given one.
 fn is_secret_of(kept: &[u8], given: &[u8]) -> bool
     ensures { result ≡ is_secret_of kept.now given.now }
 {

@@ -35,7 +35,7 @@ pub enum Key {
     Root,
     /// A quota root's name: at most 64 bytes from 0x20 to 0x7E.
     RootName,
-    /// The mailbox whose name, and the names below it, a quota root other than the first governs.
+    /// The mailbox that a quota root other than the first governs, with the mailboxes below it.
     Prefix,
     /// A quota root's limit in units of 1024 octets: 1 to 8796093022207.
     Storage,
@@ -44,7 +44,7 @@ pub enum Key {
 }
 
 impl Key {
-    /// The key's word in the file. The names of accounts and of quota roots have one word.
+    /// The key's word in the file. The names of accounts and of quota roots share one word.
     pub fn word(self) -> &'static str
         ensures { result.now ≡ word self }
     {

@@ -39,7 +39,7 @@ fn names_of(alloc: Global, key: Key, items: &[Value]) -> Result<Vec<Name>, Accou
     Ok(names)
 }
 
-/// The texts of the list at the key, each as it is kept; none where no list is there.
+/// The texts of the list at the key, each as it is kept; none if the key is not there.
 pub(crate) fn names_at(alloc: Global, table: &Table, key: Key) -> Result<Vec<Name>, AccountsError>
     ensures { MatchResult result (λ names. (texts_refusal key (table_view table.now) ≡ None)
         × (names.items ≡ texts_at key (table_view table.now))) (λ e. (e ≡ AccountsError.NoMemory)
@@ -54,7 +54,7 @@ pub(crate) fn names_at(alloc: Global, table: &Table, key: Key) -> Result<Vec<Nam
     }
 }
 
-/// The values of a list of one table or more, of which there are at most `most`.
+/// The values of a list of at least one and at most `most` tables.
 pub(crate) fn tables_of(key: Key, most: usize, value: &Value) -> Result<&[Value], AccountsError>
     ensures ok { IfOk result (λ values. (are_tables (view value.now) ≡ true)
         × (length values.now ≤ most) × (items_of (view value.now) ≡ Some (map view values.now))) }

@@ -9,14 +9,15 @@ use quota_roots::{LimitsList, NameList, RootSpec, Roots, Setup};
 use quota_units::{Limits, Name, NoMemory};
 use std::alloc::Global;
 
-/// The table of one account `main` with these limits, which may set limits.
+/// The table of one account, `main`, which has these limits and may set limits.
 ///
-/// It has one quota root of the empty name, the mailboxes INBOX and Trash, room for 65536 entries
-/// of history, and the epoch 0. Nobody can log in to it, and it has no token.
+/// The account has one quota root with the empty name, the mailboxes INBOX and Trash, and room for
+/// 65536 entries of history. Nobody can log in to it, and it has no token. The epoch of the table
+/// is 0.
 ///
 /// # Errors
 ///
-/// There was no memory.
+/// `NoMemory` if memory runs out.
 pub fn plain_table(alloc: Global, limits: Limits) -> Result<HostTable, NoMemory>
     ensures { IfOk result (λ table. table ≡ plain_hosts limits) }
 {

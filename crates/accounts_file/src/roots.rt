@@ -103,7 +103,8 @@ fn read_values(alloc: Global, values: &[Value]) -> Result<RootsRead, AccountsErr
     Ok(RootsRead { specs, limits })
 }
 
-/// The quota roots of an account; one without name and limits where it gives none.
+/// The quota roots of an account; one root with the empty name and no limits if the account gives
+/// none.
 pub(crate) fn read_roots(alloc: Global, account: &Table) -> Result<RootsRead, AccountsError>
     ensures ok { IfOk result (λ read. (roots_refusal (table_view account.now) ≡ None)
         × (read.specs.items ≡ specs_of (root_tables (table_view account.now)))
@@ -124,7 +125,7 @@ pub(crate) fn read_roots(alloc: Global, account: &Table) -> Result<RootsRead, Ac
     }
 }
 
-/// The roots of a list that is right.
+/// The roots of a list that `Roots::new` does not refuse.
 pub(crate) fn roots_of(specs: Vec<RootSpec>) -> Roots
     requires { AreRoots specs.items }
     ensures { result ≡ specs.items }

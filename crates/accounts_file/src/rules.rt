@@ -6,14 +6,14 @@ use crate::key::Key;
 use quota_roots::{canonical_spelling, is_mailbox_name, is_root_name};
 use quota_units::MAX_LIMIT;
 
-/// Whether the text may stand at the key. None has more than 255 bytes.
+/// Whether the key may have this text. No text may have more than 255 bytes.
 pub(crate) fn fits(key: Key, text: &[u8]) -> bool
     ensures { result ≡ fits key text.now }
 {
     text.len() <= 255 && is_right(key, spelling(key, text))
 }
 
-/// The text as it is kept: a mailbox name in its one spelling, and another as it is.
+/// The text as it is kept: a mailbox name in canonical spelling, and any other text as it is.
 pub(crate) fn spelling(key: Key, text: &[u8]) -> &[u8]
     ensures value { result.now ≡ spelling key text.now }
     ensures short { length text.now ≤ 255 → length result.now ≤ 255 }
@@ -24,7 +24,7 @@ pub(crate) fn spelling(key: Key, text: &[u8]) -> &[u8]
     }
 }
 
-/// Whether the text, as it is kept, may stand at the key.
+/// Whether the key may have this text, which is spelled as it is kept.
 fn is_right(key: Key, text: &[u8]) -> bool
     ensures { result ≡ is_right key text.now }
 {
@@ -87,7 +87,7 @@ fn is_prefix(prefix: &[u8]) -> bool
     is_mailbox_name(prefix) && prefix != b"Trash".as_slice()
 }
 
-/// The largest number that may stand at the key. Each key's numbers begin at 1.
+/// The largest number that the key may have. Each key's numbers begin at 1.
 pub(crate) fn most(key: Key) -> u64
     ensures value { result ≡ most key }
     ensures small { result < 8796093022208 }

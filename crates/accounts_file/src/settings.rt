@@ -13,11 +13,11 @@ use toml::Table;
 /// The listeners of a host, and the workers of each.
 #[derive(Clone, Copy, Debug, PartialEq, Eq)]
 pub struct Settings {
-    /// The port of the IMAP listener, where it is to be opened.
+    /// The port of the IMAP listener; `None` if it is not opened.
     pub imap: Option<u16>,
-    /// The port of the JMAP listener, where it is to be opened.
+    /// The port of the JMAP listener; `None` if it is not opened.
     pub jmap: Option<u16>,
-    /// The port of the policy listener, where it is to be opened.
+    /// The port of the policy listener; `None` if it is not opened.
     pub policy: Option<u16>,
     /// The workers of each listener.
     pub workers: u32,

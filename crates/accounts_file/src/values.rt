@@ -29,7 +29,7 @@ pub(crate) fn value_at<'a>(table: &'a Table, key: Key) -> Option<&'a Value>
     member(table, key.word())
 }
 
-/// The number that the value is, where it may stand at the key.
+/// The number that the value is, if the key may have it.
 fn number_of(key: Key, value: &Value) -> Option<u64>
     ensures value { result ≡ number_of key (view value.now) }
     ensures range { IfSome result (λ n. (1 ≤ n) × (n ≤ most key)) }
@@ -40,7 +40,7 @@ fn number_of(key: Key, value: &Value) -> Option<u64>
     }
 }
 
-/// The number at the key, from 1 on.
+/// The number at the key, which is at least 1.
 pub(crate) fn number_at(table: &Table, key: Key) -> Result<Option<u64>, AccountsError>
     ensures reads { Reads (number_refusal key (table_view table.now))
         (number_at key (table_view table.now)) result }
@@ -80,7 +80,7 @@ pub(crate) fn text_of(alloc: Global, key: Key, value: &Value) -> Result<Name, Ac
     }
 }
 
-/// A name of bytes that are short enough for one.
+/// The name of these bytes, which are short enough for one.
 pub(crate) fn name_of(alloc: Global, bytes: &[u8]) -> Result<Name, AccountsError>
     requires { length bytes.now ≤ 255 }
     ensures { Reads None bytes.now result }
@@ -91,7 +91,7 @@ pub(crate) fn name_of(alloc: Global, bytes: &[u8]) -> Result<Name, AccountsError
     }
 }
 
-/// The text that must stand at the key.
+/// The text at the key, which must be there.
 pub(crate) fn needed_text(alloc: Global, table: &Table, key: Key) -> Result<Name, AccountsError>
     ensures { Reads (needed_text_refusal key (table_view table.now))
         (unwrap_or (text_at key (table_view table.now)) []) result }
@@ -102,7 +102,7 @@ pub(crate) fn needed_text(alloc: Global, table: &Table, key: Key) -> Result<Name
     }
 }
 
-/// The text at the key, or the empty one.
+/// The text at the key, or the empty text if the key is not there.
 pub(crate) fn text_or_empty(alloc: Global, table: &Table, key: Key) -> Result<Name, AccountsError>
     ensures { Reads (text_refusal key (table_view table.now))
         (unwrap_or (text_at key (table_view table.now)) []) result }

@@ -13,11 +13,12 @@ pub enum Verdict {
     Over { root: u32, resource: Resource },
 }
 
-/// Whether a message of so many octets fits the limits of these roots (RFC 9208, section 4.3.1).
+/// Whether a message of `octets` octets fits the limits of these roots (RFC 9208, section 4.3.1).
 ///
-/// `limits` and `totals` have an item for each root, by its number. Where the message does not fit,
-/// the first root that it does not fit is named, and for it storage before messages. What equals a
-/// limit is within it.
+/// `limits` and `totals` have one item for each root, in the order of the roots' numbers. The
+/// numbers in `totals`, and `octets`, must be below 2^62. If the message does not fit, the verdict
+/// names the first root that it does not fit. If it exceeds both limits of that root, the verdict
+/// names storage. Usage may equal a limit.
 #[tactic(auto, using(crate::proofs::FirstLemmas::fits_each, crate::proofs::FirstLemmas::fits_not_each))]
 pub fn admit(limits: &[Limits], totals: &[Totals], roots: RootSet, octets: u64) -> Verdict
     requires same { length limits.now ≡ length totals.now }

@@ -3,12 +3,12 @@ use Rattle.std.specs.Prelude.{ℕ, Bool, true, false, ◌==◌, if◌then◌else
 use Rattle.imap_grammar.specs.Bytes.{is_astring_byte, is_escaped, is_quotable}
 use Rattle.imap_grammar.specs.Reading.{Reader, got, wrong, short, with_first, many}
 
--- one or more bytes that stand plainly, up to one that does not
+-- one or more bytes that need no quotes, up to one that does
 abbrev pub plain : Reader (List ℕ)
 plain [] = short
 plain (b ∷ bs) = if is_astring_byte b then many is_astring_byte (b ∷ bs) else wrong (b ∷ bs)
 
--- what stands up to the closing quote; `behind` says that a \ stands before
+-- the name up to the closing quote; `behind` says that a \ comes before the text
 abbrev pub inside : (behind : Bool) → Reader (List ℕ)
 inside behind [] = short
 inside true (b ∷ bs) = if is_escaped b then with_first b (inside false bs) else wrong (b ∷ bs)

@@ -23,7 +23,7 @@ word_named letters =
 abbrev pub word_of : List ℕ → Option Word
 word_of letters = word_named (map to_ascii_lowercase letters)
 
--- these bytes, where they are a tag
+-- these bytes, if they are a tag
 abbrev pub checked_tag : List ℕ → Reader (List ℕ)
 checked_tag bytes =
     if nat_lt 0 (length bytes) && nat_le (length bytes) 64 then gives bytes else fails

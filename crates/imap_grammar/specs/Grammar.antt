@@ -30,18 +30,18 @@ IsLineEnd end = (end ≡ 10 ∷ []) ⊎ (end ≡ 13 ∷ 10 ∷ [])
 abbrev pub IsWord : List ℕ → List ℕ → Type 0
 IsWord word bytes = map to_ascii_lowercase bytes ≡ word
 
--- one or more bytes that stand plainly
+-- one or more bytes that need no quotes
 pub record IsPlain (bytes : List ℕ) : Type 0 where
   pub some : 0 < length bytes
   pub each : IsTrue (list_all is_astring_byte bytes)
 
 -- bytes between quotes, with a \ before " and \ (RFC 9051, section 9: quoted; bytes above 127 are
--- let through)
+-- allowed)
 pub record IsQuoted (bytes value : List ℕ) : Type 0 where
   pub each : IsTrue (list_all is_quotable value)
   pub spelled : bytes ≡ quoted value
 
--- a name, plainly or between quotes (RFC 9051, section 9: astring; literals are not built yet)
+-- a name, with or without quotes (RFC 9051, section 9: astring; literals are not built yet)
 abbrev pub IsAstring : List ℕ → List ℕ → Type 0
 IsAstring bytes value = (IsPlain bytes × (value ≡ bytes)) ⊎ IsQuoted bytes value
 
@@ -58,7 +58,7 @@ abbrev pub IsAskedLimit : List ℕ → AskedLimit → Type 0
 IsAskedLimit bytes asked = (name number : List ℕ) × IsPlain name × IsNumber number asked.limit
     × (asked.resource ≡ resource_of name) × (bytes ≡ name ++ 32 ∷ number)
 
--- limits, each behind a space
+-- limits, each after a space
 abbrev pub IsMoreLimits : List ℕ → List AskedLimit → Type 0
 IsMoreLimits bytes [] = bytes ≡ []
 IsMoreLimits bytes (x ∷ xs) = (own more : List ℕ) × IsAskedLimit own x × IsMoreLimits more xs
@@ -81,7 +81,7 @@ NamesLimits letters body name limits =
     (word bytes list : List ℕ) × IsWord letters word × IsAstring bytes name × IsLimits list limits
     × (body ≡ word ++ 32 ∷ (bytes ++ 32 ∷ 40 ∷ (list ++ 41 ∷ [])))
 
--- the word and the arguments of a command that is allowed with login or without it (RFC 9208,
+-- the word and the arguments of a command that the session allows, logged in or not (RFC 9208,
 -- formal syntax: getquota, getquotaroot, setquota; RFC 9051, section 9: logout)
 abbrev pub IsBody : (login : Bool) → List ℕ → Command → Type 0
 IsBody login body (GetQuota root) = IsTrue login × NamesOne (codes "getquota") body root

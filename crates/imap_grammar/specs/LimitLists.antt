@@ -20,17 +20,17 @@ next_limit (b ∷ bs) =
     if b == 41 then got None bs
     else if b == 32 then (asked_limit >>= (λ limit. gives (Some limit))) bs else wrong (b ∷ bs)
 
--- the limit and those that others reads, or none
+-- the limit and the limits that `others` reads, or none
 abbrev pub with_others : Reader (List AskedLimit) → Option AskedLimit → Reader (List AskedLimit)
 with_others others None = gives []
 with_others others (Some limit) = others >>= (λ limits. gives (limit ∷ limits))
 
--- limits, each behind a space, up to the closing parenthesis, in so many rounds
+-- limits, each after a space, up to the closing parenthesis, in this many rounds
 abbrev pub more_limits : (rounds : ℕ) → Reader (List AskedLimit)
 more_limits zero = fails
 more_limits (suc rounds) = next_limit >>= with_others (more_limits rounds)
 
--- a limit takes a byte at least, so that these are rounds enough
+-- each limit takes at least one byte, so as many rounds as bytes are enough
 abbrev pub limits_behind : Reader (List AskedLimit)
 limits_behind text = more_limits (length text) text
 

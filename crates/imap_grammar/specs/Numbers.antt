@@ -7,17 +7,17 @@ use Rattle.imap_grammar.specs.Reading.{Reader, Reading, got, wrong, short}
 abbrev pub max_number : ℕ
 max_number = 9223372036854775807
 
--- a digit may follow so many that make this number
+-- a digit may follow `come` digits that make this number
 abbrev pub takes_digit : (come value : ℕ) → ℕ → Bool
 takes_digit come value b =
     is_ascii_digit b && (nat_lt come 19 && nat_le (value * 10 + (b - 48)) max_number)
 
--- the number ends after so many digits, of which there must be one
+-- the number ends after `come` digits, of which there must be at least one
 abbrev pub number_ends : (come value : ℕ) → List ℕ → Reading ℕ
 number_ends zero value rest = wrong rest
 number_ends (suc come) value rest = got value rest
 
--- further digits behind so many that make this number
+-- further digits, after `come` digits that make this number
 abbrev pub digits : (come value : ℕ) → Reader ℕ
 digits come value [] = short
 digits come value (b ∷ bs) =

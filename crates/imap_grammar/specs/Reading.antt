@@ -1,14 +1,14 @@
--- Readings: what stands at the front of a text, and readers one after another.
+-- Readings: what is read at the front of a text, and how readers run one after another.
 use Rattle.std.specs.Prelude.{◌≡◌, ℕ, Bool, ◌==◌, if◌then◌else◌, List, [], ◌∷◌, length, Result, Ok, Err}
 use Rattle.imap_grammar.specs.declared.readers.Stop.{Stop}
 use Rattle.imap_grammar.specs.declared.readers.Stop.TheVariants.{Wrong, Short, Memory}
 
 pub data Reading (A : Type 0) : Type 0 where
-  -- this stands there, and then the rest
+  -- this value is at the front of the text, and then comes the rest
   got : (value : A) (rest : List ℕ) → Reading A
-  -- the text goes wrong at the first byte of this rest of it
+  -- the text goes wrong at the first byte of this rest
   wrong : (rest : List ℕ) → Reading A
-  -- the text ends within
+  -- the text ends too early
   short : Reading A
 
 abbrev pub Reader : Type 0 → Type 0
@@ -19,16 +19,16 @@ and_then (got value rest) next = next value rest
 and_then (wrong rest) next = wrong rest
 and_then short next = short
 
--- one reader, and then another by what was read
+-- one reader, and then the reader that its value chooses
 infixl 10 ◌>>=◌
 abbrev pub ◌>>=◌ : {A B : Type 0} → Reader A → (A → Reader B) → Reader B
 (first >>= next) text = and_then (first text) next
 
--- nothing is read, and this is what it says
+-- nothing is read, and this is the value
 abbrev pub gives : {A : Type 0} → A → Reader A
 gives value text = got value text
 
--- no text goes on so
+-- a reader that accepts nothing: the text ends too early, or goes wrong here
 abbrev pub fails : {A : Type 0} → Reader A
 fails [] = short
 fails (b ∷ bs) = wrong (b ∷ bs)
@@ -42,7 +42,7 @@ with_first b (got bs rest) = got (b ∷ bs) rest
 with_first b (wrong rest) = wrong rest
 with_first b short = short
 
--- all bytes of these, up to one that is not
+-- bytes that pass a test, up to the first that does not
 abbrev pub many : (ℕ → Bool) → Reader (List ℕ)
 many is [] = short
 many is (b ∷ bs) = if is b then with_first b (many is bs) else got [] (b ∷ bs)
@@ -56,7 +56,7 @@ abbrev pub line_end : Reader (Unit {0})
 line_end [] = short
 line_end (b ∷ bs) = if b == 10 then got tt bs else if b == 13 then byte 10 bs else wrong (b ∷ bs)
 
--- what a reader of the code answers is the reading, but for want of memory
+-- what a reader of the code returns is the reading, unless memory runs out
 abbrev pub Stops : {A : Type 0} → Stop → Reading A → Type 0
 Stops (Wrong left) reading = (rest : List ℕ) × (reading ≡ wrong rest) × (length rest ≡ left)
 Stops Short reading = reading ≡ short
@@ -66,7 +66,7 @@ abbrev pub Gives : {X A : Type 0} → (X → A) → (X → List ℕ) → Result 
 Gives value rest (Ok x) reading = reading ≡ got (value x) (rest x)
 Gives value rest (Err stop) reading = Stops stop reading
 
--- what a reader of the code answers where no text goes on so
+-- what a reader of the code returns if it accepts nothing here
 abbrev pub FailsAt : List ℕ → Stop → Type 0
 FailsAt [] stop = stop ≡ Short
 FailsAt (b ∷ bs) stop = stop ≡ Wrong (length (b ∷ bs))

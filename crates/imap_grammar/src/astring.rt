@@ -24,18 +24,18 @@ impl Model for Astring {
 }
 
 impl Astring {
-    /// The bytes that are named, without quotes.
+    /// The bytes of the name, without quotes and escapes.
     pub fn as_slice(&self) -> &[u8]
         ensures { result.now ≡ self.now }
     {
         self.bytes.as_slice()
     }
 
-    /// The same as a name. No memory is taken.
+    /// The same bytes as a `Name`. This allocates no memory.
     ///
     /// # Errors
     ///
-    /// `TooLong` where there are more than 255 bytes, and no other.
+    /// `TooLong` if there are more than 255 bytes. There is no other error.
     pub fn into_name(self) -> Result<Name, NameError>
         ensures ok { IfOk result (λ name. name ≡ self) }
         ensures too_long { (result ≡ Err (NameError.TooLong (length self))) ↔ (255 < length self) }
@@ -45,21 +45,21 @@ impl Astring {
     }
 }
 
-/// Whether a byte stands between quotes behind a `\` alone.
+/// Whether a byte needs a `\` before it between quotes: `"` and `\` do.
 pub fn is_escaped(byte: u8) -> bool
     ensures { result ≡ is_escaped byte }
 {
     byte == b'"' || byte == b'\\'
 }
 
-/// Whether a byte may stand between quotes.
+/// Whether a byte may occur between quotes: every byte but NUL, LF and CR.
 fn is_quotable(byte: u8) -> bool
     ensures { result ≡ is_quotable byte }
 {
     !(byte == 0 || (byte == b'\n' || byte == b'\r'))
 }
 
-/// One or more bytes that stand plainly.
+/// One or more bytes that need no quotes.
 pub fn plain(text: &[u8]) -> Result<(&[u8], &[u8]), Stop>
     ensures { Gives (λ x. x.0.now) (λ x. x.1.now) result (plain text.now) }
 {
@@ -70,7 +70,7 @@ pub fn plain(text: &[u8]) -> Result<(&[u8], &[u8]), Stop>
     }
 }
 
-/// What stands up to the closing quote, each byte as it is or behind a `\`.
+/// The name up to the closing quote. Each byte is as it is, or comes after a `\`.
 fn inside(alloc: Global, text: &[u8]) -> Result<(Astring, &[u8]), Stop>
     ensures { Gives (λ x. x.0) (λ x. x.1.now) result (inside false text.now) }
 {
@@ -100,7 +100,7 @@ fn inside(alloc: Global, text: &[u8]) -> Result<(Astring, &[u8]), Stop>
     Err(Stop::Short)
 }
 
-/// A name, plainly or between quotes.
+/// A name, with or without quotes.
 pub fn name(alloc: Global, text: &[u8]) -> Result<(Astring, &[u8]), Stop>
     ensures { Gives (λ x. x.0) (λ x. x.1.now) result (astring text.now) }
 {

@@ -22,10 +22,10 @@ pub enum Command {
     Logout,
 }
 
-/// Why a text is no command.
+/// Why a text is not a command.
 #[derive(Clone, Copy, Debug, PartialEq, Eq, Error)]
 pub enum CommandFault {
-    /// It is none of the commands that are built.
+    /// The text is none of the commands that are built.
     #[error("not built yet")]
     NotBuilt,
     #[error("out of memory")]
@@ -33,12 +33,13 @@ pub enum CommandFault {
 }
 
 /// The command that a text is, from its tag to its line's end. `login` says whether the session is
-/// logged in: only then are there other commands than LOGOUT.
+/// logged in. Without login, LOGOUT is the only command.
 ///
 /// # Errors
 ///
-/// `NotBuilt` where the text is none of the commands GETQUOTA, GETQUOTAROOT, SETQUOTA and LOGOUT,
-/// or names a root or a mailbox by a literal; or `NoMemory`.
+/// `NotBuilt` if the text is none of the commands GETQUOTA, GETQUOTAROOT, SETQUOTA and LOGOUT, if
+/// it is another command than LOGOUT without login, or if it names a root or a mailbox by a
+/// literal; `NoMemory` if memory runs out.
 pub fn read_command(alloc: Global, text: &[u8], login: bool) -> Result<Command, CommandFault>
     ensures command { IfOk result (λ command. (tag : List ℕ) × IsCommand login text.now
         (record { tag = tag; command = command })) }
@@ -51,7 +52,8 @@ pub fn read_command(alloc: Global, text: &[u8], login: bool) -> Result<Command, 
     }
 }
 
-/// The command that a text is, and how many bytes its tag has, which stands at the front.
+/// The command that a text is, and the number of bytes of its tag. The tag is at the front of the
+/// text.
 ///
 /// # Errors
 ///
@@ -63,13 +65,13 @@ pub fn read_tagged(
 ) -> Result<(Command, usize), CommandFault>
     ensures short { IfOk result (λ x. x.1 < length text.now) }
 
-    // The text is this command of the grammar, or it is none.
+    // The text is this command of the grammar, or no command of it.
     ensures command { IfOk result (λ x. IsCommand login text.now
         (record { tag = take x.1 text.now; command = x.0 })) }
     ensures not_built { IfErr result (λ fault. fault ≡ CommandFault.NotBuilt
         → (tagged : Tagged) → IsCommand login text.now tagged → ⊥) }
 
-    // The same by the reading.
+    // The same two facts, stated with `command_in`.
     ensures read { IfOk result (λ x. command_in login text.now
         ≡ Some (record { tag = take x.1 text.now; command = x.0 })) }
     ensures not_read { IfErr result (λ fault. fault ≡ CommandFault.NotBuilt

@@ -3,13 +3,13 @@ ghost use Rattle.imap_grammar.specs.Commands.{command_in};
 ghost use Rattle.imap_grammar.specs.Grammar.{Tagged, IsAstring, IsCommand};
 ghost use Rattle.imap_grammar.specs.Printing.{is_printable_text, printed};
 
-/// A law: what is printed for bytes of printing ASCII and spaces is a name of the grammar, and
-/// names these bytes.
+/// A law: if a name has only printing ASCII and spaces, its printed form is a name of the grammar,
+/// and names the same bytes.
 pub fn a_printed_name_reads_back()
     ensures { (name : List ℕ) → IsTrue (is_printable_text name) → IsAstring (printed name) name }
 {}
 
-/// A law: a text is one command at most.
+/// A law: a text is at most one command.
 pub fn each_text_is_one_command()
     ensures { (login : Bool) (text : List ℕ) (one other : Tagged) → IsCommand login text one
         → IsCommand login text other → one ≡ other }

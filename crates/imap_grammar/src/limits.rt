@@ -13,7 +13,7 @@ use std::marker::Model;
 /// A limit that SETQUOTA asks for (RFC 9208, on SETQUOTA).
 #[derive(Clone, Copy, Debug, PartialEq, Eq)]
 pub struct AskedLimit {
-    /// What the resource's name names; `None` where it is no resource of this service.
+    /// The resource of the given name; `None` if this service has no such resource.
     pub resource: Option<Resource>,
     /// Units of 1024 octets, or messages: at most 9223372036854775807.
     pub limit: u64,

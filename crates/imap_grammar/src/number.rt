@@ -7,8 +7,8 @@ use crate::readers::Stop;
 /// The largest number: 2 to the power of 63, less 1.
 const MAX_NUMBER: u64 = 9223372036854775807;
 
-/// The number with one digit more, behind so many that make it; `None` where none may follow or the
-/// byte is no digit.
+/// The number with one more digit, after the `come` digits that make `value`; `None` if no digit
+/// may follow, or if the byte is not a digit.
 fn with_digit(come: usize, value: u64, byte: u8) -> Option<u64>
     ensures some { IsSome result ↔ IsTrue (takes_digit come value byte) }
     ensures value { IfSome result (λ more. more ≡ value * 10 + (byte - 48)) }

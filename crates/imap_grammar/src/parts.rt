@@ -10,7 +10,8 @@ use crate::readers::{Stop, byte, letters, line_end, tag_bytes};
 use crate::word::{Word, is_allowed, word_of};
 use std::alloc::Global;
 
-/// No text goes on so.
+/// The stop of a reader that accepts nothing at this rest: `Short` if the text ends here, else
+/// `Wrong` here.
 fn stopped(rest: &[u8]) -> Stop
     ensures { FailsAt rest.now result }
 {
@@ -21,7 +22,7 @@ fn stopped(rest: &[u8]) -> Stop
     }
 }
 
-/// These bytes, where they are a tag.
+/// These bytes, if they are a tag.
 fn checked_tag<'a>(bytes: &'a [u8], rest: &'a [u8]) -> Result<(&'a [u8], &'a [u8]), Stop>
     ensures { Gives (λ x. x.0.now) (λ x. x.1.now) result (checked_tag bytes.now rest.now) }
 {
@@ -34,7 +35,7 @@ fn checked_tag<'a>(bytes: &'a [u8], rest: &'a [u8]) -> Result<(&'a [u8], &'a [u8
     Ok((bytes, rest))
 }
 
-/// A tag: 1 to 64 of its bytes.
+/// A tag: 1 to 64 tag bytes.
 fn tag(text: &[u8]) -> Result<(&[u8], &[u8]), Stop>
     ensures { Gives (λ x. x.0.now) (λ x. x.1.now) result (tag_at text.now) }
 {

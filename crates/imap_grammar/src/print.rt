@@ -1,4 +1,4 @@
-// How names are printed: plainly, quoted, or as a literal.
+// How names are printed: as they are, quoted, or as a literal.
 ghost use Rattle.std.specs.Prelude.{◌≡◌, ◌++◌, OnOk};
 ghost use Rattle.std.specs.List.{flat_map, list_all};
 ghost use Rattle.imap_grammar.specs.Bytes.{is_astring_byte};
@@ -10,14 +10,14 @@ use itoa::Buffer;
 use quota_units::is_printable;
 use std::alloc::AllocError;
 
-/// Whether all bytes are those that stand plainly, and there is one.
+/// Whether there is a byte, and no byte needs quotes.
 fn is_plain(bytes: &[u8]) -> bool
     ensures { result ≡ is_plain bytes.now }
 {
     !bytes.is_empty() && may_stand(bytes)
 }
 
-/// Whether all bytes are those that stand plainly.
+/// Whether no byte needs quotes.
 fn may_stand(bytes: &[u8]) -> bool
     ensures { result ≡ list_all is_astring_byte bytes.now }
 {
@@ -31,7 +31,7 @@ fn is_printable_text(bytes: &[u8]) -> bool
     bytes.iter().all(|b| is_printable(*b))
 }
 
-/// A byte, with `\` before `"` and `\`.
+/// Appends a byte, with a `\` before it if it is `"` or `\`.
 fn push_escaped_byte(out: &mut Vec<u8>, byte: u8) -> Result<(), AllocError>
     ensures { OnOk result (out.new.items ≡ out.old.items ++ escaped byte) }
 {
@@ -42,7 +42,7 @@ fn push_escaped_byte(out: &mut Vec<u8>, byte: u8) -> Result<(), AllocError>
     Ok(())
 }
 
-/// The bytes, each so.
+/// Appends the bytes, with a `\` before each `"` and each `\`.
 #[tactic(auto, using(crate::proofs::Escaping::escaped_none, crate::proofs::Escaping::escaped_more, crate::proofs::Escaping::escaped_all))]
 fn push_escaped(out: &mut Vec<u8>, bytes: &[u8]) -> Result<(), AllocError>
     ensures { OnOk result (out.new.items ≡ out.old.items ++ flat_map escaped bytes.now) }
@@ -54,12 +54,12 @@ fn push_escaped(out: &mut Vec<u8>, bytes: &[u8]) -> Result<(), AllocError>
 }
 
 /// Appends a name of a quota root or a mailbox as a client reads it (RFC 9051, section 9: astring):
-/// plainly where all its bytes may stand so, quoted where they are printing ASCII and spaces, and
-/// else as a literal.
+/// as it is if it has a byte and no byte needs quotes, quoted if all its bytes are printing ASCII
+/// and spaces, and else as a literal.
 ///
 /// # Errors
 ///
-/// There was no memory. Some of the text may be appended.
+/// Memory ran out. Some of the text may have been appended.
 pub fn push_astring(out: &mut Vec<u8>, bytes: &[u8]) -> Result<(), AllocError>
     ensures { OnOk result (out.new.items ≡ out.old.items ++ printed bytes.now) }
 {

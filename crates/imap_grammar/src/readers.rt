@@ -1,5 +1,5 @@
-// Readers of the parts of a command: each reads what it names at the front of a text, and gives the
-// rest.
+// Readers of the parts of a command. Each reads the part that its comment names from the front of a
+// text, and gives that part and the rest of the text.
 ghost use Rattle.std.specs.Prelude.{◌≡◌};
 ghost use Rattle.imap_grammar.specs.Reading.{Gives, byte, many, line_end};
 ghost use Rattle.imap_grammar.specs.Bytes.{is_tag_byte, is_astring_byte, is_letter};
@@ -10,11 +10,11 @@ use std::alloc::{AllocError, AllocFailed};
 /// Why nothing was read.
 #[derive(Clone, Copy, Debug, PartialEq, Eq)]
 pub enum Stop {
-    /// The text goes wrong where so many bytes of it are left.
+    /// The text goes wrong at a byte. `left` bytes are left from that byte on.
     Wrong { left: usize },
-    /// The text ends within.
+    /// The text ends too early.
     Short,
-    /// There was no memory.
+    /// Memory ran out.
     Memory,
 }
 
@@ -34,7 +34,7 @@ impl<T: Drop> From<AllocFailed<T>> for Stop {
     }
 }
 
-/// This byte.
+/// The byte `wanted`.
 pub fn byte(text: &[u8], wanted: u8) -> Result<((), &[u8]), Stop>
     ensures { Gives (λ x. x.0) (λ x. x.1.now) result (byte wanted text.now) }
 {
@@ -68,7 +68,7 @@ pub fn is_tag_byte(byte: u8) -> bool
     (33..=126).contains(&byte) && !b"(){%*\"\\+".contains(&byte)
 }
 
-/// Whether a name stands plainly with this byte (RFC 9051, section 9: ASTRING-CHAR).
+/// Whether a name may have this byte without quotes (RFC 9051, section 9: ASTRING-CHAR).
 pub fn is_astring_byte(byte: u8) -> bool
     ensures { result ≡ is_astring_byte byte }
 {
@@ -88,7 +88,7 @@ pub fn tag_bytes(text: &[u8]) -> Result<(&[u8], &[u8]), Stop>
     Err(Stop::Short)
 }
 
-/// Bytes that stand plainly, up to the first other byte.
+/// Bytes that need no quotes, up to the first other byte.
 #[tactic(auto, using(crate::proofs::Many::read_none, crate::proofs::Many::read_more, crate::proofs::Many::read_stops, crate::proofs::Many::read_all))]
 pub fn astring_bytes(text: &[u8]) -> Result<(&[u8], &[u8]), Stop>
     ensures { Gives (λ x. x.0.now) (λ x. x.1.now) result (many is_astring_byte text.now) }

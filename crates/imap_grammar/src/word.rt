@@ -27,7 +27,7 @@ pub fn word_of(letters: &[u8]) -> Option<Word>
     }
 }
 
-/// Whether the command is allowed with login or without it.
+/// Whether the command is allowed. `login` says whether the session is logged in.
 pub fn is_allowed(word: Word, login: bool) -> bool
     ensures { result ≡ is_allowed word login }
 {

@@ -1,35 +1,36 @@
--- The calls of a keeper, by their result: what they answer, and what they do to what the keeper
--- tells.
+-- The calls of a keeper, by their result: what each call answers, and how it changes what the
+-- keeper tells contracts.
 use Rattle.std.specs.Prelude.{◌≡◌, ◌≢◌, ◌+◌, ◌≤◌, ◌<◌, ℕ, Vec, List, [], ◌∷◌, ◌++◌, Option, Some, None, Result, Ok, Err, ⊤}
 use Rattle.std.specs.Option.{option_map}
 use Rattle.keeper.specs.declared.rows.FileRow.{FileRow}
 use Rattle.keeper.specs.Files.{Files, ButLedgers, listed, removed, renamed, ledger_at, ledger_bytes}
 
--- what a keeper tells: its files, and how many failures of its calls may still come
+-- what a keeper tells contracts: its files, and how many failures of its calls may still come
 pub record Told : Type 0 where
   pub files : Files
   pub due : ℕ
 
--- what is told changes so and stays told, and what is not told stays untold
+-- what is told changes by R; a keeper either always tells contracts its files, or never does;
+-- stores either always tell contracts their accounts, or never do
 abbrev pub Changes : {X : Type 0} → (X → X → Type 0) → Option X → Option X → Type 0
 Changes R None None = ⊤
 Changes R None (Some new) = ⊥
 Changes R (Some old) None = ⊥
 Changes R (Some old) (Some new) = R old new
 
--- a failure is one of those that were due, and the count of faults with the failures due never
--- grows
+-- a failure uses up at least one of the failures due, and the count of faults plus the failures due
+-- never grows
 pub record Spends (failed : Type 0) (before now : ℕ) (told told' : Told) : Type 0 where
   pub fewer : failed → told'.due < told.due
   pub bounded : now + told'.due ≤ before + told.due
 
--- the same of calls that both counts of faults have
+-- the same for work that may fail in an append or in another call: both counts of faults, added up
 abbrev pub Due : (failed : Type 0) → (faults appends faults' appends' : ℕ)
     → Option Told → Option Told → Type 0
 Due failed faults appends faults' appends' told told' =
     Changes (Spends failed (faults + appends) (faults' + appends')) told told'
 
--- what the files change by, if they are told
+-- a change of the files that a keeper tells
 abbrev pub OnFiles : (Files → Files → Type 0) → Told → Told → Type 0
 OnFiles R told told' = R told.files told'.files
 
@@ -48,7 +49,7 @@ Puts mailbox name octets (Ok done) told told' =
     }
 Puts mailbox name octets (Err e) told told' = told'.files ≡ told.files
 
--- rename: the row has this mailbox and name now
+-- rename: the first row of the old mailbox and name has the new ones now
 abbrev pub Renames : {T E : Type 0} → List ℕ → List ℕ → List ℕ → List ℕ → Result T E → Told → Told
     → Type 0
 Renames from name to new_name (Ok done) told told' = told'.files ≡ record told.files {
@@ -63,27 +64,28 @@ Removes mailbox name (Ok done) told told' = told'.files ≡ record told.files {
 }
 Removes mailbox name (Err e) told told' = told'.files ≡ told.files
 
--- read_ledger: the ledger's bytes, where there is one
+-- read_ledger: the ledger's bytes, or none if there is no such file
 abbrev pub Reads : {A E : Type 0} → ℕ → Result (Option (Vec ℕ A)) E → Told → Told → Type 0
 Reads root (Ok found) told told' = (option_map (λ bytes. bytes.items) found
     ≡ ledger_at told.files root) × (told'.files ≡ told.files)
 Reads root (Err e) told told' = told'.files ≡ told.files
 
--- all but the ledger of this root stays
+-- nothing but the ledger of this root has changed
 pub record OneLedger (root : ℕ) (files files' : Files) : Type 0 where
   pub same : ButLedgers files files'
   pub others : (other : ℕ) → other ≢ root → ledger_at files' other ≡ ledger_at files other
 
--- the ledger of this root has these bytes now, and all else stays
+-- the ledger of this root has these bytes now, and nothing else has changed
 abbrev pub Writes : ℕ → List ℕ → Files → Files → Type 0
 Writes root bytes files files' = OneLedger root files files' × (ledger_at files' root ≡ Some bytes)
 
--- a front of the line stands behind the ledger's bytes, and all else stays
+-- a prefix of the line comes after the ledger's bytes now, and nothing else has changed
 abbrev pub Tears : ℕ → List ℕ → Files → Files → Type 0
 Tears root line files files' = OneLedger root files files' × ((front rest : List ℕ)
     × (line ≡ front ++ rest) × (ledger_bytes files' root ≡ ledger_bytes files root ++ front))
 
--- append_ledger: the line stands behind the ledger's bytes, or a front of it where the call failed
+-- append_ledger: the line comes after the ledger's bytes, or a prefix of the line if the call
+-- failed
 abbrev pub Appends : {T E : Type 0} → ℕ → List ℕ → Result T E → Told → Told → Type 0
 Appends root line (Ok done) told told' =
     Writes root (ledger_bytes told.files root ++ line) told.files told'.files

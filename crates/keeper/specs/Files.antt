@@ -13,7 +13,7 @@ pub record Row : Type 0 where
 
 pub record Files : Type 0 where
   pub rows : List Row
-  -- the bytes of the ledger of each root, from root 0 on; none where there is no such file
+  -- the bytes of each root's ledger, from root 0 on; none if there is no such file
   pub ledgers : List (Option (List ℕ))
 
 abbrev pub is_in : List ℕ → Row → Bool
@@ -22,11 +22,11 @@ is_in mailbox row = bytes_eq row.mailbox mailbox
 abbrev pub is_named : List ℕ → List ℕ → Row → Bool
 is_named mailbox name row = bytes_eq row.mailbox mailbox && bytes_eq row.name name
 
--- there is such a row
+-- there is a row of this mailbox and name
 abbrev pub has_row : List ℕ → List ℕ → List Row → Bool
 has_row mailbox name rows = list_any (is_named mailbox name) rows
 
--- its name and its length in octets
+-- a message file's name, and its length in octets
 abbrev pub file_of : Row → FileRow
 file_of row = record { name = row.name; length = length row.octets }
 
@@ -40,8 +40,8 @@ removed mailbox name [] = []
 removed mailbox name (row ∷ rows) =
     if is_named mailbox name row then rows else row ∷ removed mailbox name rows
 
--- with another mailbox and name for the first row of this mailbox and name, which keeps its place
--- and its octets
+-- the first row of this mailbox and name gets another mailbox and name, and keeps its place and its
+-- octets
 abbrev pub renamed : List ℕ → List ℕ → List ℕ → List ℕ → List Row → List Row
 renamed from name to new_name [] = []
 renamed from name to new_name (row ∷ rows) =
@@ -56,7 +56,7 @@ abbrev pub bytes_of : Option (List ℕ) → List ℕ
 bytes_of None = []
 bytes_of (Some bytes) = bytes
 
--- its bytes; a ledger that is not there has none
+-- the bytes of a root's ledger; a ledger that does not exist has none
 abbrev pub ledger_bytes : Files → ℕ → List ℕ
 ledger_bytes files root = bytes_of (ledger_at files root)
 
@@ -64,7 +64,7 @@ ledger_bytes files root = bytes_of (ledger_at files root)
 abbrev pub ButLedgers : Files → Files → Type 0
 ButLedgers files files' = files' ≡ record files { ledgers = files'.ledgers }
 
--- the ledgers of four roots: these, and none for each that is missing
+-- the ledgers of four roots: these, and none for each root after them
 abbrev pub four_ledgers : {A : Type 0} → List (Option (Vec ℕ A)) → List (Option (List ℕ))
 four_ledgers given =
     map (option_map (λ bytes. bytes.items)) given ++ replicate (4 - length given) None

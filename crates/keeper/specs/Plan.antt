@@ -1,5 +1,5 @@
--- The calls of a keeper in memory that are to fail. A call is known by its kind and by its number
--- among those of its kind, from 1 on.
+-- The calls that a keeper in memory fails. A call is known by its kind and by its number among
+-- those of its kind, from 1 on.
 use Rattle.std.specs.Prelude.{ℕ, Bool, true, false, not, ◌&&◌, nat_eq, List, filter, if◌then◌else◌}
 use Rattle.std.specs.List.{list_any}
 use Rattle.quota_units.specs.Causes.{next_count}
@@ -8,14 +8,15 @@ use Rattle.keeper.specs.declared.plan.KeepFail.{KeepFail}
 use Rattle.keeper.specs.declared.plan.KeepCall.{KeepCall}
 use Rattle.keeper.specs.declared.plan.KeepCall.TheVariants.{List as ListCall, Put, Rename, Remove, ReadLedger, AppendLedger, InstallLedger}
 
--- the calls that are still to fail, how many of each kind were made, and how many of them failed
+-- the calls that will still fail, how many calls of each kind were made, and how many of them
+-- failed
 pub record Planned : Type 0 where
   pub fails : List KeepFail
   pub made : CallCounts
   pub faults : ℕ
   pub append_faults : ℕ
 
--- these calls are to fail, and none was made
+-- these calls will fail, and none was made yet
 abbrev pub new_plan : List KeepFail → Planned
 new_plan fails = record {
   fails = fails;
@@ -32,7 +33,7 @@ new_plan fails = record {
   append_faults = 0;
 }
 
--- the row of a kind in the table of calls
+-- a number for each kind of call, by which kinds are compared
 abbrev pub index_of : KeepCall → ℕ
 index_of ListCall = 0
 index_of Put = 1
@@ -51,7 +52,7 @@ count_of ReadLedger made = made.read_ledger
 count_of AppendLedger made = made.append_ledger
 count_of InstallLedger made = made.install_ledger
 
--- with one more of this kind
+-- with one more call of this kind
 abbrev pub with_one_more : KeepCall → CallCounts → CallCounts
 with_one_more ListCall made = record made { list = next_count made.list }
 with_one_more Put made = record made { put = next_count made.put }
@@ -61,7 +62,7 @@ with_one_more ReadLedger made = record made { read_ledger = next_count made.read
 with_one_more AppendLedger made = record made { append_ledger = next_count made.append_ledger }
 with_one_more InstallLedger made = record made { install_ledger = next_count made.install_ledger }
 
--- it is this call that is to fail
+-- this planned failure is of this call
 abbrev pub names : KeepCall → ℕ → KeepFail → Bool
 names kind nth fail = nat_eq (index_of fail.kind) (index_of kind) && nat_eq fail.nth nth
 
@@ -85,7 +86,7 @@ abbrev pub is_append : KeepCall → Bool
 is_append AppendLedger = true
 is_append kind = false
 
--- after a call of this kind that failed, which is counted with the appends or with the rest
+-- after a call of this kind that failed; the failures of appends have a count of their own
 abbrev pub failed : KeepCall → Planned → Planned
 failed kind plan = record {
   fails = fails_left kind plan;
@@ -98,7 +99,7 @@ failed kind plan = record {
 abbrev pub plan_after : KeepCall → Planned → Planned
 plan_after kind plan = if fails_next kind plan then failed kind plan else called kind plan
 
--- the count that the failures of this kind raise, and the other one
+-- the count that a failure of this kind raises, and the other count
 abbrev pub faults_of_kind : KeepCall → Planned → ℕ
 faults_of_kind kind plan = if is_append kind then plan.append_faults else plan.faults
 

@@ -5,13 +5,13 @@ use quota_units::{Failed, NoMemory};
 use std::alloc::{AllocError, AllocFailed};
 use thiserror::Error;
 
-/// Why a call of a store that takes memory gave no answer.
+/// Why a store gave no answer to a call that takes an allocator.
 #[derive(Clone, Copy, Debug, PartialEq, Eq, Error)]
 pub enum KeepError {
-    /// There was no memory. The files are as before, and no fault is counted.
+    /// Out of memory. The files are as before, and no fault is counted.
     #[error("out of memory")]
     NoMemory,
-    /// The store has failed, which is counted.
+    /// The store failed, and counted the fault.
     #[error("the store has failed")]
     Failed,
 }

@@ -28,7 +28,8 @@ impl Model for MemFiles {
 }
 
 impl MemFiles {
-    /// These rows and ledgers; a ledger that is missing of four is none.
+    /// Files with these rows and these ledgers, at most four. Each root after the last of them has
+    /// no ledger.
     pub(crate) fn new(
         alloc: Global,
         rows: Vec<StoreRow>,
@@ -93,7 +94,7 @@ impl MemFiles {
         remove(&mut self.rows, mailbox, name);
     }
 
-    /// A copy of a ledger's bytes, where it is there.
+    /// A copy of a ledger's bytes, or `None` if there is no such ledger.
     pub(crate) fn read_ledger(
         &self,
         alloc: Global,
@@ -106,7 +107,7 @@ impl MemFiles {
         self.ledgers[root as usize].read(alloc)
     }
 
-    /// Writes a line behind a ledger's bytes. It takes no memory.
+    /// Appends a line to a ledger. It allocates no memory.
     pub(crate) fn append_ledger(&mut self, root: u32, line: &[u8])
         requires root { root < 4 }
         requires room { length (ledger_bytes self.old root) + length line.now < 5120 }
@@ -115,7 +116,7 @@ impl MemFiles {
         self.ledgers[root as usize].append(line);
     }
 
-    /// Writes a text in place of a ledger. It takes no memory.
+    /// Writes a text in place of a ledger. It allocates no memory.
     pub(crate) fn install_ledger(&mut self, root: u32, text: &[u8])
         requires root { root < 4 }
         requires short { length text.now < 5120 }
@@ -125,7 +126,7 @@ impl MemFiles {
     }
 }
 
-/// The ledgers of this list, to be kept.
+/// Makes the ledgers in memory from this list.
 fn kept_ledgers(alloc: Global, given: Vec<Option<Vec<u8>>>) -> Result<Vec<Ledger>, AllocError>
     ensures { IfOk result
         (λ ledgers. ledgers.items ≡ map (option_map (λ bytes. bytes.items)) given.items) }
@@ -137,7 +138,7 @@ fn kept_ledgers(alloc: Global, given: Vec<Option<Vec<u8>>>) -> Result<Vec<Ledger
     Ok(ledgers)
 }
 
-/// Four ledgers: these, and those that are missing, which are not there.
+/// Adds ledgers that do not exist yet until there are four.
 #[tactic(auto, using(std::proofs::lemmas::Grind::replicate_next, std::proofs::lemmas::List::append_assoc))]
 fn filled(alloc: Global, mut ledgers: Vec<Ledger>) -> Result<Vec<Ledger>, AllocError>
     ensures { IfOk result

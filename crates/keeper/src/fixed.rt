@@ -26,12 +26,12 @@ impl Model for FixedKeeper {
 }
 
 impl FixedKeeper {
-    /// A keeper without message files and ledgers. It reserves 5120 bytes per ledger, so that
-    /// appends and installs take no memory.
+    /// A keeper with no message file and no ledger. It reserves 5120 bytes per ledger, so that
+    /// appends and installs allocate no memory.
     ///
     /// # Errors
     ///
-    /// `NoMemory`.
+    /// `NoMemory` if memory runs out.
     pub fn new(alloc: Global) -> Result<FixedKeeper, NoMemory>
         ensures { IfOk result (λ keeper. keeper ≡ record { files = no_files; lists = 0 }) }
     {

@@ -76,7 +76,7 @@ impl KeptRow {
     }
 }
 
-/// The rows of this list, to be kept.
+/// Makes the rows in memory from this list.
 pub(crate) fn kept_rows(alloc: Global, rows: Vec<StoreRow>) -> Result<Vec<KeptRow>, AllocError>
     ensures { IfOk result (λ kept. kept.items ≡ rows.items) }
 {

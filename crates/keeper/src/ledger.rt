@@ -8,8 +8,8 @@ use std::marker::Model;
 /// A ledger has fewer bytes than this.
 pub(crate) const LEDGER_ROOM: usize = 5120;
 
-/// A ledger in memory, with room for as many bytes as it may have. Contracts see its bytes, where
-/// it is there.
+/// A ledger in memory, with room for as many bytes as it may have. Contracts see its bytes, or none
+/// if the ledger does not exist.
 #[derive(Debug, Drop)]
 pub(crate) struct Ledger {
     bytes: Vec<u8>,
@@ -28,7 +28,7 @@ impl Model for Ledger {
 }
 
 impl Ledger {
-    /// A ledger with these bytes, or one that is not there yet.
+    /// A ledger with these bytes, or one that does not exist yet.
     pub(crate) fn new(alloc: Global, ledger: Option<Vec<u8>>) -> Result<Ledger, AllocError>
         ensures { IfOk result (λ made. made ≡ option_map (λ bytes. bytes.items) ledger) }
     {
@@ -47,7 +47,7 @@ impl Ledger {
         }
     }
 
-    /// A copy of the bytes, where the ledger is there.
+    /// A copy of the bytes, or `None` if the ledger does not exist.
     pub(crate) fn read(&self, alloc: Global) -> Result<Option<Vec<u8>>, AllocError>
         ensures { IfOk result (λ found. option_map (λ bytes. bytes.items) found ≡ self.now) }
     {
@@ -57,7 +57,7 @@ impl Ledger {
         Ok(Some(self.bytes.to_vec(alloc)?))
     }
 
-    /// Writes a line behind the bytes. It takes no memory.
+    /// Appends a line. It allocates no memory.
     pub(crate) fn append(&mut self, line: &[u8])
         requires { length (bytes_of self.old) + length line.now < 5120 }
         ensures { self.new ≡ Some (bytes_of self.old ++ line.now) }
@@ -66,7 +66,7 @@ impl Ledger {
         self.exists = true;
     }
 
-    /// Writes a text in place of the bytes. It takes no memory.
+    /// Writes a text in place of the bytes. It allocates no memory.
     pub(crate) fn install(&mut self, text: &[u8])
         requires { length text.now < 5120 }
         ensures { self.new ≡ Some text.now }

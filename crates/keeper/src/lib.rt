@@ -1,5 +1,5 @@
-//! What keeps the files of an account: the traits of a keeper and of the stores that keepers come
-//! from, and both in memory.
+//! Keepers of the files of an account: the trait of a keeper, the trait of the stores that give
+//! keepers out, and implementations of both in memory.
 #![tactic(auto)]
 
 mod bytes;

@@ -10,7 +10,7 @@ use quota_units::Name;
 use std::alloc::Global;
 use std::marker::Model;
 
-/// Stores of keepers in memory. Where a name stands twice, the first holds.
+/// Stores of keepers in memory. If a name occurs twice, the first account of that name counts.
 #[derive(Debug, Drop)]
 pub struct MemStores {
     keepers: Vec<(Name, Option<MemKeeper>)>,
@@ -26,7 +26,8 @@ impl Model for MemStores {
 }
 
 impl MemStores {
-    /// The accounts of these names with these keepers; one without a keeper can't be opened.
+    /// Stores of these accounts, by name, with these keepers. An account without a keeper can't be
+    /// opened.
     pub fn new(keepers: Vec<(Name, Option<MemKeeper>)>) -> MemStores
         ensures { result ≡ record { accounts = keepers.items; faults = 0 } }
     {
@@ -59,7 +60,7 @@ fn take(keepers: &mut Vec<(Name, Option<MemKeeper>)>, name: &[u8]) -> Option<Mem
     }
 }
 
-/// Puts a keeper in the place of this name, or drops it where there is none.
+/// Puts a keeper in the place of this name, or drops it if no account has the name.
 #[tactic(auto, using(crate::proofs::AccountLemmas::with_at, crate::proofs::AccountLemmas::with_nowhere))]
 fn put(keepers: &mut Vec<(Name, Option<MemKeeper>)>, name: &[u8], keeper: MemKeeper)
     ensures { keepers.new.items ≡ with_keeper name.now (Some keeper) keepers.old.items }

@@ -12,7 +12,7 @@ use quota_units::{Failed, NoMemory};
 use std::alloc::Global;
 use std::marker::Model;
 
-/// A keeper in memory, which fails the calls that it is told to, each once.
+/// A keeper in memory. It fails the calls that were named when it was made, each once.
 ///
 /// A failed `append_ledger` leaves the first half of its line.
 #[derive(Debug, Drop)]
@@ -30,15 +30,15 @@ impl Model for MemKeeper {
 }
 
 impl MemKeeper {
-    /// A keeper of these message files, and of these ledgers of the roots from 0 on, at most four;
-    /// one that is missing is not there.
+    /// A keeper of these message files and of these ledgers, at most four, for the roots from 0 on.
+    /// A root has no ledger if its place in the list is `None` or missing.
     ///
     /// It fails the calls that `fails` names. It reserves 5120 bytes per ledger, so that appends
-    /// and installs take no memory.
+    /// and installs allocate no memory.
     ///
     /// # Errors
     ///
-    /// `NoMemory`.
+    /// `NoMemory` if memory runs out.
     pub fn new(
         alloc: Global,
         rows: Vec<StoreRow>,

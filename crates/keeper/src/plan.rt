@@ -26,7 +26,7 @@ impl KeepCall {
     }
 }
 
-/// A call that is to fail: the `nth` of its kind, which counts from 1.
+/// A call that will fail: the `nth` of its kind, counted from 1.
 #[derive(Clone, Copy, Debug, PartialEq, Eq)]
 pub struct KeepFail {
     pub kind: KeepCall,
@@ -34,7 +34,7 @@ pub struct KeepFail {
 }
 
 impl KeepFail {
-    /// Whether it is this call.
+    /// Whether this names the call.
     fn is(&self, kind: KeepCall, nth: u64) -> bool
         ensures { result ≡ names kind nth self.now }
     {
@@ -42,7 +42,7 @@ impl KeepFail {
     }
 }
 
-/// How many calls of each kind were made. Each count stands still at 2^64 - 1.
+/// How many calls of each kind were made. Each count stops at 2^64 - 1.
 #[derive(Clone, Copy, Debug, PartialEq, Eq)]
 pub(crate) struct CallCounts {
     pub list: u64,
@@ -55,7 +55,7 @@ pub(crate) struct CallCounts {
 }
 
 impl CallCounts {
-    /// No call.
+    /// No call was made.
     fn none() -> CallCounts
         ensures { result ≡ record {
           list = 0;
@@ -78,7 +78,7 @@ impl CallCounts {
         }
     }
 
-    /// How many calls of this kind.
+    /// How many calls of this kind were made.
     fn of(&self, kind: KeepCall) -> u64
         ensures { result ≡ count_of kind self.now }
     {
@@ -93,7 +93,7 @@ impl CallCounts {
         }
     }
 
-    /// One more call of this kind.
+    /// Counts one more call of this kind.
     fn count(&mut self, kind: KeepCall)
         ensures { self.new ≡ with_one_more kind self.old }
     {
@@ -109,7 +109,7 @@ impl CallCounts {
     }
 }
 
-/// Which calls are to fail, how many were made, and how many failed.
+/// Which calls will fail, how many calls of each kind were made, and how many failed.
 #[derive(Debug, Drop)]
 pub(crate) struct Plan {
     fails: Vec<KeepFail>,
@@ -132,7 +132,7 @@ impl Model for Plan {
 }
 
 impl Plan {
-    /// These calls are to fail, and none was made.
+    /// These calls will fail, and none was made yet.
     pub(crate) fn new(fails: Vec<KeepFail>) -> Plan
         ensures { result ≡ new_plan fails.items }
     {
@@ -151,7 +151,7 @@ impl Plan {
         self.faults
     }
 
-    /// Forgets the calls that failed.
+    /// Sets both counts of faults to 0.
     pub(crate) fn forget_faults(&mut self)
         ensures { self.new ≡ record self.old { faults = 0; append_faults = 0 } }
     {
@@ -159,7 +159,7 @@ impl Plan {
         self.append_faults = 0;
     }
 
-    /// Counts a call of this kind, which fails where it is one that is to.
+    /// Counts a call of this kind. It fails if the plan names the call.
     pub(crate) fn call(&mut self, kind: KeepCall) -> Result<(), Failed>
         ensures fails { IsErr result ↔ IsTrue (fails_next kind self.old) }
         ensures after { self.new ≡ plan_after kind self.old }
@@ -186,14 +186,14 @@ impl Plan {
     }
 }
 
-/// Whether this call is among those that are to fail.
+/// Whether one of these names the call.
 fn is_named(fails: &[KeepFail], kind: KeepCall, nth: u64) -> bool
     ensures { result ≡ list_any (names kind nth) fails.now }
 {
     fails.iter().any(|fail| fail.is(kind, nth))
 }
 
-/// Drops the entries of this call, which there are.
+/// Drops all of these that name the call. There must be at least one.
 fn drop_named(fails: &mut Vec<KeepFail>, kind: KeepCall, nth: u64)
     requires { list_any (names kind nth) fails.old.items ≡ true }
     ensures left { fails.new.items ≡ filter (λ fail. not (names kind nth fail)) fails.old.items }

@@ -9,7 +9,7 @@ pub struct FileRow {
     pub length: u64,
 }
 
-/// A message file to be kept: its mailbox, its name and its octets.
+/// A message file that is given to a keeper: its mailbox, its name and its octets.
 #[derive(Debug, Drop)]
 pub struct StoreRow {
     pub mailbox: Name,

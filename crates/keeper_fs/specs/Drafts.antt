@@ -4,11 +4,11 @@ use Rattle.std.specs.Prelude.{ℕ, ◌+◌, ◌*◌, Bool, List, codes, nat_eq, 
 use Rattle.std.specs.List.{ends_with}
 use Rattle.message_names.specs.Parts.{base_of}
 
--- the name of a message that the service was delivering
+-- the service gives a name like this to a message that it is delivering
 abbrev pub is_delivery : List ℕ → Bool
 is_delivery name = ends_with nat_eq (base_of name) (codes ".quotad")
 
--- a file that was written then has stood for more than 36 hours; both times are nanoseconds since
+-- a file that was written at this time is older than 36 hours now; both times are nanoseconds since
 -- 1970
 abbrev pub was_left : ℕ → ℕ → Bool
 was_left written now = nat_lt (written + 129600 * 1000000000) now

@@ -1,5 +1,5 @@
--- What is read of a ledger's file: all of fewer than 5120 octets, and of more only whole lines, so
--- that a first line without an end is no definition.
+-- What is read of a ledger's file: a file of fewer than 5120 octets is read whole; of any other
+-- file only whole lines are read, so that a first line without an end is no definition.
 use Rattle.std.specs.Prelude.{◌≡◌, ℕ, Bool, false, ◌⊎◌, ◌==◌, List, [], ◌∷◌, ◌++◌}
 use Rattle.std.specs.List.{list_any}
 

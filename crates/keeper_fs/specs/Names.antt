@@ -4,11 +4,12 @@ use Rattle.std.specs.Prelude.{ℕ, Bool, not, ◌&&◌, ◌||◌, List, codes, n
 use Rattle.std.specs.List.{list_any, starts_with}
 use Rattle.std.specs.Str.{is_utf8}
 
--- a byte that no name of a file has
+-- a byte that the name of a file can't have
 abbrev pub is_separator : ℕ → Bool
 is_separator byte = nat_eq byte 0 || nat_eq byte 47
 
--- not empty, no name that Maildir leaves out as hidden, and no way to another folder
+-- the name is not empty, Maildir does not leave it out as hidden, and it can't lead to another
+-- folder
 abbrev pub is_plain : List ℕ → Bool
 is_plain name = nat_lt 0 (length name)
     && (not (starts_with nat_eq name (codes ".")) && not (list_any is_separator name))

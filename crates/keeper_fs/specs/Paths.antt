@@ -7,17 +7,17 @@ use Rattle.std.specs.Fmt.{decimal}
 use Rattle.keeper_fs.specs.declared.folders.Mailbox.{Mailbox}
 use Rattle.keeper_fs.specs.Names.{is_file_name}
 
--- what has this name in a folder
+-- the path of a name in a folder
 abbrev pub path_in : List ℕ → List ℕ → List ℕ
 path_in folder name = folder ++ (codes "/" ++ name)
 
--- the folder of a mailbox: the account's own of INBOX, and `.<mailbox>` in it of another
+-- the folder of a mailbox: for INBOX the account's own, and for another mailbox `.<mailbox>` in it
 -- (Maildir++)
 abbrev pub mailbox_folder : List ℕ → List ℕ → List ℕ
 mailbox_folder account mailbox =
     if bytes_eq mailbox (codes "INBOX") then account else path_in account (codes "." ++ mailbox)
 
--- the folders of a mailbox whose folder this is (Maildir)
+-- the folders of the mailbox whose folder this is (Maildir)
 pub record IsMailbox (folder : List ℕ) (mailbox : Mailbox) : Type 0 where
   pub own : string_bytes mailbox.folder ≡ folder
   pub tmp : string_bytes mailbox.tmp ≡ path_in folder (codes "tmp")
@@ -29,10 +29,11 @@ abbrev pub ledger_name : ℕ → List ℕ
 ledger_name root =
     if nat_eq root 0 then codes "maildirsize" else codes "maildirsize." ++ decimal root
 
--- a path that is text and not empty
+-- a path that is UTF-8 and not empty
 abbrev pub is_path : List ℕ → Bool
 is_path path = is_utf8 path && nat_lt 0 (length path)
 
--- an account of this name has a folder below this one
+-- an account of this name can have a folder below this one: its name is the name of one file or
+-- folder, and this is a path
 abbrev pub has_folder : List ℕ → List ℕ → Bool
 has_folder folder account = is_file_name account && is_path folder

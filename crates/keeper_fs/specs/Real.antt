@@ -1,4 +1,4 @@
--- Keepers and stores over folders: their counts and where their files are. What the files hold is
+-- Keepers and stores over folders: their counts, and where their files are. What the files hold is
 -- not told.
 use Rattle.std.specs.Prelude.{ℕ, List}
 use Rattle.std.specs.String.{string_bytes}

@@ -8,11 +8,12 @@ use std::fs::{DirEntry, Files};
 use std::time::{Clock, Duration, SystemTime};
 use std::{fs, io};
 
-/// How many seconds a file stays in `tmp` before it counts as left: 36 hours.
+/// A file in `tmp` counts as left behind after this many seconds: 36 hours.
 const SECONDS_LEFT: u64 = 129600;
 
 /// Removes the messages that an earlier run left in `tmp` of the account in this folder and of its
-/// folders `.<mailbox>`. No link is followed there. What can't be removed stays.
+/// folders `.<mailbox>`. It follows no link inside the account's folder. What can't be removed
+/// stays.
 pub(crate) fn remove_left<R: Files + AllocGlobal + Clock + Clone + Drop>(rt: &R, account: &str) {
     if let Ok(now) = SystemTime::now(rt) {
         let _ = clear_mailbox(rt, account, now);
@@ -20,7 +21,7 @@ pub(crate) fn remove_left<R: Files + AllocGlobal + Clock + Clone + Drop>(rt: &R,
     }
 }
 
-/// Removes what is left in the folders `.<mailbox>` of an account.
+/// Removes the messages that were left in the folders `.<mailbox>` of an account.
 fn clear_others<R: Files + AllocGlobal + Clone + Drop>(
     rt: &R,
     account: &str,
@@ -45,7 +46,7 @@ fn clear_other<R: Files + AllocGlobal + Clone + Drop>(
     Ok(())
 }
 
-/// Removes what is left in `tmp` of a mailbox's folder.
+/// Removes the messages that were left in `tmp` of a mailbox's folder.
 fn clear_mailbox<R: Files + AllocGlobal + Clone + Drop>(
     rt: &R,
     folder: &str,
@@ -63,7 +64,7 @@ fn clear_mailbox<R: Files + AllocGlobal + Clone + Drop>(
     Ok(())
 }
 
-/// Removes a file if it is a message that was left.
+/// Removes a file if it is a message that was left behind.
 fn clear_draft<R: Files + AllocGlobal + Clone + Drop>(
     rt: &R,
     entry: &DirEntry<R, Global>,
@@ -79,14 +80,14 @@ fn clear_draft<R: Files + AllocGlobal + Clone + Drop>(
     Ok(())
 }
 
-/// Whether a name is that of a message that the service was delivering.
+/// Whether the service gives a name like this to a message that it is delivering.
 fn is_delivery(name: &[u8]) -> bool
     ensures { result ≡ is_delivery name.now }
 {
     base_of(name).ends_with(b".quotad")
 }
 
-/// Whether a file that was written then has stood for more than 36 hours.
+/// Whether a file that was written at this time is older than 36 hours now.
 fn was_left(written: SystemTime, now: SystemTime) -> bool
     ensures { result ≡ was_left (system_time_nanos written) (system_time_nanos now) }
 {

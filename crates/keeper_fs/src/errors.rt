@@ -5,8 +5,8 @@ use keeper::KeepError;
 use std::io;
 use std::io::ErrorKind;
 
-/// The cause of an error: `NoMemory` where memory was wanted, and `Failed` where the system has
-/// failed, whatever it says.
+/// The cause of an error: `NoMemory` if it is an out-of-memory error without an error number of the
+/// system, and `Failed` if it is any other error.
 pub(crate) fn cause(error: io::Error) -> KeepError
     ensures { (result ≡ KeepError.NoMemory)
         ↔ ((error_kind error ≡ ErrorKind.OutOfMemory) × (raw_os_error error ≡ None)) }
@@ -18,7 +18,7 @@ pub(crate) fn cause(error: io::Error) -> KeepError
     }
 }
 
-/// A fault, whatever the error is: for a call that changes files.
+/// `Failed`, whatever the error is: for a call that changes files.
 pub(crate) fn fault(_: io::Error) -> KeepError
     ensures { result ≡ KeepError.Failed }
 {

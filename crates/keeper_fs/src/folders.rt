@@ -11,11 +11,11 @@ use std::io;
 use std::io::ErrorKind;
 use std::os::unix::fs::DirBuilderExt;
 
-/// The permissions of a new folder: its owner does all.
+/// The permissions of a new folder: all for its owner, none for others.
 const FOLDER_MODE: u32 = 0o700;
 
 /// The folder of a mailbox and the three in it (Maildir): a file is written in `tmp`, and is a
-/// message once it stands in `new` or `cur`.
+/// message once it is in `new` or `cur`.
 #[derive(Drop)]
 pub(crate) struct Mailbox {
     pub(crate) folder: String,
@@ -25,8 +25,8 @@ pub(crate) struct Mailbox {
 }
 
 impl Mailbox {
-    /// The folders of a mailbox of the account in this folder: those of INBOX stand in it, and
-    /// those of another mailbox in its folder `.<mailbox>` (Maildir++).
+    /// The folders of a mailbox of the account in this folder. Those of INBOX are in this folder
+    /// itself, and those of another mailbox in its folder `.<mailbox>` (Maildir++).
     pub(crate) fn of(alloc: Global, account: &str, mailbox: &str) -> Result<Mailbox, AllocError>
         ensures { IfOk result (IsMailbox (mailbox_folder account.now mailbox.now)) }
     {
@@ -49,7 +49,7 @@ impl Mailbox {
         })
     }
 
-    /// The folder in which a file of this name is put: `cur` if the name has flags, and else `new`.
+    /// The folder for a file of this name: `cur` if the name has flags, and `new` if not.
     pub(crate) fn home(&self, name: &str) -> &str
         ensures cur { HasSubslice name.now (codes ":2,") → result.now ≡ string_bytes self.now.cur }
         ensures new { ¬ HasSubslice name.now (codes ":2,")
@@ -62,8 +62,7 @@ impl Mailbox {
         }
     }
 
-    /// Makes what is missing of the folders, and of the folder of the account to which the mailbox
-    /// belongs.
+    /// Makes those of the folders that are missing, and the folder of the account if it is missing.
     pub(crate) fn make<R: Files>(&self, rt: &R, account: &str) -> io::Result<()> {
         make_folder(rt, account)?;
         for path in [&self.folder, &self.tmp, &self.new, &self.cur] {
@@ -73,7 +72,7 @@ impl Mailbox {
     }
 }
 
-/// Makes a folder if its name is free, and hands its name to the disk.
+/// Makes a folder if its name is free, and syncs the folder above it to disk.
 fn make_folder<R: Files>(rt: &R, path: &str) -> io::Result<()> {
     match create_folder(rt, path, false) {
         Ok(()) => sync_folder(rt, parent_of(path)),
@@ -86,14 +85,14 @@ fn make_folder<R: Files>(rt: &R, path: &str) -> io::Result<()> {
     }
 }
 
-/// Makes a folder, with those above it if `above` says so.
+/// Makes a folder, and the missing folders above it if `above` is true.
 fn create_folder<R: Files>(rt: &R, path: &str, above: bool) -> io::Result<()> {
     let mut builder = DirBuilder::new();
     builder.recursive(above).mode(FOLDER_MODE);
     builder.create(rt, path)
 }
 
-/// The folder in which a path's last name stands.
+/// The folder that the last name of a path is in.
 fn parent_of(path: &str) -> &str {
     match path.rsplit_once('/') {
         Some((parent, _)) => parent,

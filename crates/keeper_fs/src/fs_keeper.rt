@@ -13,14 +13,16 @@ use std::fs::Files;
 
 /// Keeps an account in a folder of its own, a Maildir++ tree. What the folder holds is not told.
 ///
-/// A message of INBOX is a file in `new` or `cur` of the folder, and one of another mailbox in
-/// `new` or `cur` of the folder's folder `.<mailbox>`. A message that was put outlives a crash. The
-/// ledger of root 0 is the file `maildirsize`, and that of root k `maildirsize.<k>`, if it is a
-/// regular file. New files have the permissions 0600 and new folders 0700.
+/// A message of INBOX is a file in `new` or `cur` of the folder. A message of another mailbox is a
+/// file in `new` or `cur` of the folder `.<mailbox>` below it. A message that was put outlives a
+/// crash. The ledger of root 0 is the file `maildirsize`, and the ledger of root k is
+/// `maildirsize.<k>`, if it is a regular file. New files have the permissions 0600, and new folders
+/// have 0700.
 ///
-/// Each `Err` of the system is a fault, and so is want of memory where a call has no answer for it,
-/// a file that is to be renamed or removed and is not there, a name that is taken, and a line for a
-/// ledger that is not there or has no room for it.
+/// A call fails if the system answers with an error that the call can't make good, if the file to
+/// rename or remove is not there, if the name to put or to rename to is taken, or if the ledger to
+/// append to is not there or has no room for the line. Running out of memory is a failure if the
+/// call has no `NoMemory` to answer, and in the file operations of `put` and `rename`.
 #[derive(Drop)]
 pub struct FsKeeper<R> {
     rt: R,
@@ -73,7 +75,7 @@ impl<R: Files + AllocGlobal + Clone + Drop> FsKeeper<R> {
         Failed
     }
 
-    /// The same answer, with its fault counted.
+    /// The same answer. If it is `Failed`, the fault is counted.
     fn counted<T>(&mut self, answer: Result<T, KeepError>) -> Result<T, KeepError>
         ensures same { result ≡ answer }
         ensures cause { HasCause (IsErrOf answer KeepError.Failed) (faults_of self.old)
@@ -104,10 +106,11 @@ impl<R: Files + AllocGlobal + Clone + Drop> Keeper for FsKeeper<R> {
         ensures appends { append_faults_of self.new ≡ append_faults_of self.old }
         ensures listings { lists_of self.new ≡ next_count (lists_of self.old) }
         ensures folder { folder_of self.new ≡ folder_of self.old }
-        // Only a name that leads to no other folder is looked for.
+        // The call fails if the mailbox's name is not the name of one file or folder, so that it
+        // leads to no other folder.
         ensures outside { is_file_name mailbox.now ≡ false → IsErrOf result KeepError.Failed }
-        // Only a file whose name other calls take is listed, with the size that its name states as
-        // its length, where it states one.
+        // Each file listed has a name that other calls accept. If the name states a size, that is
+        // the length listed.
         ensures rows { IfOk result (λ rows. All IsMessageRow rows.items) }
     {
         self.lists = self.lists.saturating_add(1);
@@ -127,7 +130,8 @@ impl<R: Files + AllocGlobal + Clone + Drop> Keeper for FsKeeper<R> {
         ensures appends { append_faults_of self.new ≡ append_faults_of self.old }
         ensures listings { lists_of self.new ≡ lists_of self.old }
         ensures folder { folder_of self.new ≡ folder_of self.old }
-        // Only names that lead to no other folder are written.
+        // The call fails if a name is not the name of one file or folder, so that it leads to no
+        // other folder.
         ensures outside { (is_file_name mailbox.now && is_file_name name.now) ≡ false
             → IsErrOf result KeepError.Failed }
     {
@@ -148,7 +152,8 @@ impl<R: Files + AllocGlobal + Clone + Drop> Keeper for FsKeeper<R> {
         ensures appends { append_faults_of self.new ≡ append_faults_of self.old }
         ensures listings { lists_of self.new ≡ lists_of self.old }
         ensures folder { folder_of self.new ≡ folder_of self.old }
-        // Only names that lead to no other folder are renamed.
+        // The call fails if a name is not the name of one file or folder, so that it leads to no
+        // other folder.
         ensures outside { (is_file_name from.now && (is_file_name name.now && (is_file_name to.now
             && is_file_name new_name.now))) ≡ false → IsErrOf result KeepError.Failed }
     {
@@ -162,7 +167,8 @@ impl<R: Files + AllocGlobal + Clone + Drop> Keeper for FsKeeper<R> {
         ensures appends { append_faults_of self.new ≡ append_faults_of self.old }
         ensures listings { lists_of self.new ≡ lists_of self.old }
         ensures folder { folder_of self.new ≡ folder_of self.old }
-        // Only a name that leads to no other folder is removed.
+        // The call fails if a name is not the name of one file or folder, so that it leads to no
+        // other folder.
         ensures outside { (is_file_name mailbox.now && is_file_name name.now) ≡ false
             → IsErr result }
     {
@@ -180,7 +186,7 @@ impl<R: Files + AllocGlobal + Clone + Drop> Keeper for FsKeeper<R> {
 
     fn read_ledger(&mut self, alloc: Global, root: u32) -> Result<Option<Vec<u8>>, KeepError>
         requires { root < 4 }
-        // A ledger is read to a bound, whatever its file is.
+        // At most 5120 bytes of a ledger are read, whatever its file is.
         ensures bound { IfOk result (λ found. IfSome found (λ text. length text.items ≤ 5120)) }
         ensures cause { HasCause (IsErrOf result KeepError.Failed) (faults_of self.old)
             (faults_of self.new) }
@@ -199,8 +205,8 @@ impl<R: Files + AllocGlobal + Clone + Drop> Keeper for FsKeeper<R> {
         ensures others { faults_of self.new ≡ faults_of self.old }
         ensures listings { lists_of self.new ≡ lists_of self.old }
         ensures folder { folder_of self.new ≡ folder_of self.old }
-        // No ledger has room for such a line. Whether one has room for a shorter line, its file
-        // says.
+        // No ledger has room for such a line. Whether a ledger has room for a shorter line depends
+        // on its file.
         ensures long { 5120 ≤ length line.now → IsErr result }
     {
         match ledgers::append(&self.rt, self.rt.alloc(), self.folder.as_str(), root, line) {

@@ -14,10 +14,11 @@ use std::alloc::Global;
 use std::fs::Files;
 use std::time::Clock;
 
-/// Accounts below one folder, each in its folder `<folder>/<account>`. Which there are is not told.
+/// Accounts below one folder, each in its folder `<folder>/<account>`. Which accounts there are is
+/// not told.
 ///
-/// An opening removes from the account's folders `tmp` the messages that an earlier run of the
-/// service began to write and left there for more than 36 hours.
+/// Opening an account removes the messages that an earlier run of the service began to write in the
+/// account's folders `tmp` and left there for more than 36 hours.
 #[derive(Drop)]
 pub struct FsStores<R> {
     rt: R,
@@ -26,7 +27,8 @@ pub struct FsStores<R> {
 }
 
 impl<R: Files + AllocGlobal + Clock + Clone + Drop> FsStores<R> {
-    /// The accounts below a folder. Where its path is no text, or empty, no account can be opened.
+    /// The accounts below a folder. If the folder's path is empty or not UTF-8, no account can be
+    /// opened.
     pub fn new(rt: R, folder: Vec<u8>) -> FsStores<R>
         ensures none { store_faults_of result ≡ 0 }
         ensures folder { store_folder_of result ≡ folder.items }
@@ -46,7 +48,7 @@ impl<R: Files + AllocGlobal + Clock + Clone + Drop> FsStores<R> {
     }
 }
 
-/// The folder of an account below a folder.
+/// The path of an account's folder below this folder.
 fn account_folder(alloc: Global, folder: &[u8], account: &[u8]) -> Result<String, KeepError>
     ensures ok { IfOk result (λ path. string_bytes path ≡ path_in folder.now account.now) }
     ensures outside { has_folder folder.now account.now ≡ false → result ≡ Err KeepError.Failed }
@@ -57,7 +59,7 @@ fn account_folder(alloc: Global, folder: &[u8], account: &[u8]) -> Result<String
     Ok(path_in(alloc, folder, account)?)
 }
 
-/// The text of a path.
+/// The text of a path, which must be UTF-8 and not empty.
 #[tactic(auto, using(crate::proofs::Texts::is_text, crate::proofs::Texts::is_no_text))]
 fn path_text(path: &[u8]) -> Result<&str, Failed>
     ensures text { IfOk result (λ text. text.now ≡ path.now) }
@@ -70,7 +72,7 @@ fn path_text(path: &[u8]) -> Result<&str, Failed>
     }
 }
 
-/// Opens an account, and removes what an earlier run left in its folders `tmp`.
+/// Opens an account, and removes the messages that an earlier run left in its folders `tmp`.
 fn open_account<R: Files + AllocGlobal + Clock + Clone + Drop>(
     rt: &R,
     alloc: Global,
@@ -104,8 +106,8 @@ impl<R: Files + AllocGlobal + Clock + Clone + Drop> Stores for FsStores<R> {
         ensures listings { IfOk result (λ keeper. lists_of keeper ≡ 0) }
         ensures account { IfOk result
             (λ keeper. folder_of keeper ≡ path_in (store_folder_of self.old) account.now) }
-        // An opening fails exactly where the folder's path is no text or empty, or the name is no
-        // file's.
+        // An opening answers `Failed` exactly if the folder's path is empty or not UTF-8, or the
+        // account's name is not the name of one file or folder.
         ensures outside { has_folder (store_folder_of self.old) account.now ≡ false
             → IsErrOf result KeepError.Failed }
         ensures only { IsErrOf result KeepError.Failed

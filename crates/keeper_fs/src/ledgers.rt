@@ -13,7 +13,7 @@ use std::fs::{Files, OpenFile, OpenOptions};
 use std::io::{ErrorKind, Read, Write};
 use std::{fs, io};
 
-/// The octets that a ledger stays below.
+/// A ledger has fewer octets than this.
 const LEDGER_ROOM: u64 = 5120;
 
 /// The file name of a root's ledger: `maildirsize` for root 0, and `maildirsize.<k>` for root k.
@@ -35,8 +35,8 @@ fn ledger_path(alloc: Global, account: &str, root: u32) -> Result<String, AllocE
     path_in(alloc, account, name.as_str())
 }
 
-/// The bytes of a root's ledger, or `None` if there is no regular file of its name. Of a file of
-/// 5120 octets or more these are the whole lines among its first 5120.
+/// The bytes of a root's ledger, or `None` if no regular file has its name. If the file has 5120
+/// octets or more, these are only the whole lines among its first 5120.
 pub(crate) fn read<R: Files>(
     rt: &R,
     alloc: Global,
@@ -57,8 +57,8 @@ pub(crate) fn read<R: Files>(
     Ok(Some(text))
 }
 
-/// Opens a ledger, or gives `None` if there is no regular file of this path. What is no regular
-/// file is not opened.
+/// Opens a ledger, or gives `None` if there is no regular file at this path. It opens regular files
+/// only.
 fn open_ledger<R: Files>(rt: &R, path: &str) -> io::Result<Option<R::File>> {
     match open_regular(rt, path) {
         Err(error) if is_no_file(error.kind()) => Ok(None),
@@ -66,8 +66,8 @@ fn open_ledger<R: Files>(rt: &R, path: &str) -> io::Result<Option<R::File>> {
     }
 }
 
-/// Whether an error of this kind says that a path leads to no file: it isn't there, or its links go
-/// round.
+/// Whether an error of this kind says that a path leads to no file: there is none, or the path's
+/// links form a loop.
 fn is_no_file(kind: ErrorKind) -> bool {
     kind == ErrorKind::NotFound || kind == ErrorKind::FilesystemLoop
 }
@@ -77,7 +77,7 @@ fn open_regular<R: Files>(rt: &R, path: &str) -> io::Result<Option<R::File>> {
         return Ok(None);
     }
     let file = fs::open(rt, path)?;
-    // Another file may have taken the name since.
+    // Another file may have taken the name after the check.
     if file.metadata()?.is_file() {
         Ok(Some(file))
     } else {
@@ -85,7 +85,7 @@ fn open_regular<R: Files>(rt: &R, path: &str) -> io::Result<Option<R::File>> {
     }
 }
 
-/// Leaves a text of fewer than 5120 octets, and cuts a longer one to the whole lines among its
+/// Keeps a text of fewer than 5120 octets as it is, and cuts any other to the whole lines among its
 /// first 5120.
 fn keep_whole_lines(text: &mut Vec<u8>)
     ensures short { length text.old.items < 5120 → text.new.items ≡ text.old.items }
@@ -101,7 +101,7 @@ fn keep_whole_lines(text: &mut Vec<u8>)
     text.truncate(end);
 }
 
-/// Where the last whole line of a text ends, or 0 if there is none.
+/// Where the last whole line of a text ends, or 0 if the text has no whole line.
 #[tactic(auto, using(crate::proofs::LineLemmas::up_to_last))]
 fn end_of_lines(text: &[u8]) -> usize
     ensures lines { AreWholeLines text.now (take result text.now) }
@@ -113,8 +113,8 @@ fn end_of_lines(text: &[u8]) -> usize
     }
 }
 
-/// Writes a line behind the bytes of a root's ledger. It fails, and leaves what is there, if there
-/// is no regular file of its name, or the ledger would not stay below its room.
+/// Appends a line to a root's ledger. If no regular file has the ledger's name, or if the ledger
+/// would not stay below 5120 octets, it fails and writes nothing.
 pub(crate) fn append<R: Files>(
     rt: &R,
     alloc: Global,
@@ -138,8 +138,8 @@ pub(crate) fn append<R: Files>(
     file.write_all(line).map_err(fault)
 }
 
-/// Puts a text in place of a root's ledger. If a folder is not there, it makes what is missing of
-/// the account's and tries once more.
+/// Puts a text in place of a root's ledger. If a folder is not there, it makes the missing folders
+/// of the account and of its INBOX, and tries once more.
 pub(crate) fn install<R: Files>(
     rt: &R,
     alloc: Global,

@@ -13,7 +13,7 @@ use std::fs;
 use std::fs::Files;
 use std::io::{ErrorKind, Read};
 
-/// How many bytes of a folder's names are asked for at once.
+/// How many bytes of a folder's names are read at once.
 const NAMES_AT_ONCE: usize = 32768;
 
 /// The message files of a mailbox: those in `new`, then those in `cur`. A folder that is not there
@@ -62,13 +62,13 @@ fn add_folder<R: Files>(
     Err(KeepError::Failed)
 }
 
-/// Room for names that are read at once.
+/// A buffer for the names that are read at once.
 fn piece_of_names(alloc: Global) -> Result<Vec<u8>, AllocError> {
     vec![in alloc; 0; NAMES_AT_ONCE]
 }
 
-/// Adds the files of these names, each of which ends with a byte 0. Names that begin with `.` are
-/// left out.
+/// Adds the files of these names, each of which ends with a byte 0. It leaves out names that begin
+/// with `.`.
 #[tactic(auto, using(crate::proofs::RowLemmas::one_more))]
 fn add_names<R: Files>(
     rt: &R,
@@ -94,8 +94,8 @@ fn add_names<R: Files>(
     }
 }
 
-/// The row of a file. Its length is the size that its name states, and where it states none, that
-/// of the file.
+/// The row of a file. Its length is the size that its name states, or the file's own length if the
+/// name states none.
 fn row_of<R: Files>(rt: &R, alloc: Global, folder: &str, name: &[u8]) -> Result<FileRow, KeepError>
     ensures { IfOk result IsMessageRow }
 {

@@ -13,7 +13,7 @@ use std::fs::Files;
 use std::io::ErrorKind;
 use std::{fs, io};
 
-/// A message file's path where it stands in `new`, and where it stands in `cur`.
+/// The two paths of a message file: one in `new`, one in `cur`.
 #[derive(Drop)]
 struct Places {
     new: String,
@@ -33,7 +33,7 @@ impl Places {
         })
     }
 
-    /// Fails if a file stands in one of the places.
+    /// Fails if one of the paths has a file.
     fn require_free<R: Files>(&self, rt: &R) -> io::Result<()> {
         require_none(rt, self.new.as_str())?;
         require_none(rt, self.cur.as_str())
@@ -49,8 +49,7 @@ fn require_none<R: Files>(rt: &R, path: &str) -> io::Result<()> {
     }
 }
 
-/// A message file that is to be added or renamed: where its name may not stand yet, and where it is
-/// to stand.
+/// Where a message file arrives: the paths that must be free, and the path that the file gets.
 #[derive(Drop)]
 struct Arrival {
     taken: Places,
@@ -68,8 +67,8 @@ impl Arrival {
     }
 }
 
-/// Adds a message file to a mailbox. If a folder is not there, it makes what is missing and tries
-/// once more.
+/// Adds a message file to a mailbox. If a folder is not there, it makes the missing folders and
+/// tries once more.
 pub(crate) fn put<R: Files>(
     rt: &R,
     alloc: Global,
@@ -108,7 +107,7 @@ fn add<R: Files>(
 }
 
 /// Gives a message file another mailbox and name. If the file or a folder is not there, it makes
-/// what is missing of that mailbox's folders and tries once more.
+/// the missing folders of the new mailbox and tries once more.
 pub(crate) fn rename<R: Files>(
     rt: &R,
     alloc: Global,
@@ -138,7 +137,7 @@ pub(crate) fn rename<R: Files>(
     }
 }
 
-/// Renames the file that stands in one of the places, unless its new name is taken.
+/// Renames the file at one of the old paths, unless its new name is taken.
 fn move_file<R: Files>(rt: &R, old: &Places, arrival: &Arrival) -> io::Result<()> {
     arrival.taken.require_free(rt)?;
     let target = arrival.target.as_str();

@@ -10,7 +10,7 @@ use quota_units::Failed;
 ///
 /// # Errors
 ///
-/// `Failed` where the name is no text, is empty, begins with `.`, or has `/` or byte 0.
+/// `Failed` if the name is not UTF-8, is empty, begins with `.`, or has `/` or byte 0.
 #[tactic(auto, using(crate::proofs::Texts::is_text, crate::proofs::Texts::is_no_text))]
 pub(crate) fn file_name(name: &[u8]) -> Result<&str, Failed>
     ensures text { IfOk result (λ text. text.now ≡ name.now) }
@@ -40,7 +40,7 @@ fn has_separator(name: &[u8]) -> bool
     }
 }
 
-/// Whether a name has flags behind `:2,`, be they none.
+/// Whether a name has `:2,`, which its flags come after. There may be no flags after it.
 #[tactic(auto, using(std::proofs::lemmas::Str::Pattern::contains_text))]
 pub(crate) fn has_flags(name: &str) -> bool
     ensures { (result ≡ true) ↔ HasSubslice name.now (codes ":2,") }

@@ -3,13 +3,13 @@ use std::io::{ErrorKind, Write};
 use std::os::unix::fs::OpenOptionsExt;
 use std::{fs, io};
 
-/// The permissions of a new file: its owner reads and writes it.
+/// The permissions of a new file: its owner may read and write it.
 const FILE_MODE: u32 = 0o600;
 
-/// Adds a file with these bytes at `target` in `folder`, where no file may stand. The bytes are
-/// written at `draft` and handed to the disk, `draft` is linked to `target`, and the folder with
-/// its new name is handed to the disk. After an error the new name is removed, and in each case the
-/// draft, if that can be done.
+/// Adds a file with these bytes at `target` in `folder`. There must be no file at `target`. It
+/// writes the bytes at `draft` and syncs them to disk, links `draft` to `target`, and syncs the
+/// folder with the new name. If that sync fails, it removes the new name, and in each case it
+/// removes the draft, if that can be done.
 pub(crate) fn add_file<R: Files>(
     rt: &R,
     draft: &str,
@@ -38,9 +38,9 @@ fn write_and_link<R: Files>(
     synced
 }
 
-/// Puts a file with these bytes at `target`, in place of one that stands there. They reach it as a
-/// whole: they are written at `draft`, handed to the disk, and renamed. After an error the draft is
-/// removed, if that can be done.
+/// Puts a file with these bytes at `target`, in place of any file there. The file at `target`
+/// changes as a whole: the bytes are written at `draft`, synced to disk, and renamed. After an
+/// error it removes the draft, if that can be done.
 pub(crate) fn replace_file<R: Files>(
     rt: &R,
     draft: &str,
@@ -59,14 +59,14 @@ fn write_and_rename<R: Files>(rt: &R, draft: &str, target: &str, bytes: &[u8]) -
     fs::rename(rt, draft, target)
 }
 
-/// Writes a new file and hands it to the disk.
+/// Writes a new file and syncs it to disk.
 fn write_draft<R: Files>(rt: &R, draft: &str, bytes: &[u8]) -> io::Result<()> {
     let mut file = new_file(rt, draft)?;
     file.write_all(bytes)?;
     file.sync_all()
 }
 
-/// A new file, in place of one that an earlier run left.
+/// A new file, in place of one that an earlier run may have left.
 fn new_file<R: Files>(rt: &R, path: &str) -> io::Result<R::File> {
     match create_new(rt, path) {
         Err(error) if error.kind() == ErrorKind::AlreadyExists => {
@@ -83,7 +83,7 @@ fn create_new<R: Files>(rt: &R, path: &str) -> io::Result<R::File> {
     options.open(rt, path)
 }
 
-/// Hands the names of a folder to the disk.
+/// Syncs the names in a folder to disk.
 pub(crate) fn sync_folder<R: Files>(rt: &R, folder: &str) -> io::Result<()> {
     let folder = File::open(rt, folder)?;
     folder.sync_all()

@@ -1,6 +1,6 @@
 -- The definition line of a ledger (Maildir++): nothing, or members with commas between them. A
--- member is one or more digits and one ASCII letter. S names octets and C messages. Other letters
--- are skipped, and so is any but the last member of a letter.
+-- member is one or more digits and one ASCII letter. S names octets and C messages. Members with
+-- other letters are skipped, and of several members with one letter only the last counts.
 use Rattle.std.specs.Prelude.{ℕ, ◌+◌, min, Bool, not, ◌&&◌, ◌||◌, nat_lt, ◌==◌, if◌then◌else◌, List, [], ◌∷◌, length, take, reverse, Option, Some, None, is_some, option_and_then}
 use Rattle.std.specs.List.{slice_split, list_all, find, filter_map, prefix_len, sum_by, take_while}
 use Rattle.std.specs.Char.{is_ascii_digit, is_ascii_alphabetic}
@@ -19,7 +19,7 @@ is_comma b = b == 44
 abbrev pub limit_of : ℕ → Option ℕ
 limit_of n = if n == 0 then None else Some (min n LARGEST_LIMIT)
 
--- digits, and one letter behind them
+-- digits, and then one letter
 abbrev pub member_of : List ℕ → List ℕ → Option Member
 member_of digits [] = None
 member_of digits (letter ∷ []) =
@@ -48,12 +48,12 @@ limit_named letter members =
 abbrev pub limits_named : List Member → LimitNumbers
 limits_named members = record { octets = limit_named 83 members; count = limit_named 67 members }
 
--- the limits that members' texts set, if each is right
+-- the limits that members' texts set, if each is the text of a member
 abbrev pub limits_in : List (List ℕ) → Option LimitNumbers
 limits_in texts =
     if list_all is_member texts then Some (limits_named (filter_map member_in texts)) else None
 
--- where the first wrong text begins, with a comma behind each text
+-- the offset at which the first wrong text begins, if a comma comes after each text
 abbrev pub wrong_text_in : List (List ℕ) → Option ℕ
 wrong_text_in texts =
     let right = prefix_len is_member texts in
@@ -64,7 +64,7 @@ wrong_text_in texts =
 abbrev pub definition_in : List ℕ → Option LimitNumbers
 definition_in line = limits_in (members_in line)
 
--- the place of a line at which the first wrong member begins
+-- the offset in a line at which the first wrong member begins
 abbrev pub wrong_member_in : List ℕ → Option ℕ
 wrong_member_in line = wrong_text_in (members_in line)
 
@@ -73,7 +73,7 @@ abbrev pub definition_of : List ℕ → Option LimitNumbers
 definition_of [] = None
 definition_of (b ∷ bytes) = definition_in (first_line (b ∷ bytes))
 
--- whether a byte belongs to a member's text: it is no comma and no line feed
+-- whether a byte belongs to a member's text: it is neither a comma nor a line feed
 abbrev pub is_in_member : ℕ → Bool
 is_in_member b = not (is_comma b || is_line_feed b)
 

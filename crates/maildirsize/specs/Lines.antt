@@ -5,7 +5,7 @@ use Rattle.std.specs.List.{slice_split, before_first}
 abbrev pub is_line_feed : ℕ → Bool
 is_line_feed b = b == 10
 
--- what stands between the line feeds: the lines, and last what no line feed ends
+-- the pieces between the line feeds: the lines, and last the bytes after the last line feed
 abbrev pub parts_of : List ℕ → List (List ℕ)
 parts_of bytes = slice_split is_line_feed bytes
 
@@ -19,11 +19,11 @@ last_of [] = []
 last_of (part ∷ []) = part
 last_of (part ∷ next ∷ parts) = last_of (next ∷ parts)
 
--- the lines of a text, each of which a line feed ends
+-- the lines of a text, each ended by a line feed
 abbrev pub lines_in : List ℕ → List (List ℕ)
 lines_in bytes = all_but_last (parts_of bytes)
 
--- what stands behind the last line feed
+-- the bytes after the last line feed
 abbrev pub rest_in : List ℕ → List ℕ
 rest_in bytes = last_of (parts_of bytes)
 

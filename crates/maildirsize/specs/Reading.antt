@@ -13,7 +13,7 @@ use Rattle.maildirsize.specs.SumLine.{pair_in, is_sum_line}
 use Rattle.maildirsize.specs.Sums.{Pair, sum_of}
 
 -- The text is a ledger with these limits and these pairs: its lines are a definition of the limits
--- and a sum line for each pair, and nothing stands behind the last line feed.
+-- and a sum line for each pair, and no bytes come after the last line feed.
 pub record Reads (bytes : List ℕ) (limits : LimitNumbers) (pairs : List Pair) : Type 0 where
   pub definition : List ℕ
   pub sums : List (List ℕ)
@@ -33,22 +33,22 @@ summary limits pairs =
       count = (sum_of pairs).count;
     }
 
--- the text is a ledger that this sums up
+-- the text is a ledger, and this sums it up
 abbrev pub SumsUp : List ℕ → LedgerText → Type 0
 SumsUp bytes ledger = (pairs : List Pair) × Reads bytes ledger.limits pairs
     × (ledger ≡ summary ledger.limits pairs)
 
--- the first line that is no sum line; the definition is line 1
+-- the fault of the first line that is not a sum line; the definition is line 1
 abbrev pub line_fault : List (List ℕ) → Option LedgerFault
 line_fault sums =
     let right = prefix_len is_sum_line sums in
     if nat_lt right (length sums) then Some (BadLine (right + 2)) else None
 
--- a rest that no line feed ends, by the place at which it begins
+-- the fault of a rest that no line feed ends: the offset at which it begins
 abbrev pub rest_fault : ℕ → List ℕ → Option LedgerFault
 rest_fault len rest = if nat_lt 0 (length rest) then Some (Torn (len - length rest)) else None
 
--- the fault of the definition, of the sum lines and of the rest, in this order; a text with no line
+-- the first fault of the definition, the sum lines and the rest, in this order; a text with no line
 -- is torn at 0
 abbrev pub fault_in : ℕ → List (List ℕ) → List ℕ → Option LedgerFault
 fault_in len [] rest = Some (Torn 0)

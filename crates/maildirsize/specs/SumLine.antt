@@ -10,7 +10,7 @@ use Rattle.maildirsize.specs.Sums.{Pair}
 abbrev pub is_space : ℕ → Bool
 is_space b = b == 32
 
--- the number that 1 to 18 digits write
+-- the number that 1 to 18 digits stand for
 abbrev pub magnitude_in : List ℕ → Option ℕ
 magnitude_in digits = if nat_le (length digits) 18 then number_of digits else None
 
@@ -20,11 +20,11 @@ integer_in (b ∷ text) =
     if b == 45 then option_map (λ n. neg_ℤ (pos n)) (magnitude_in text)
     else option_map pos (magnitude_in (b ∷ text))
 
--- what stands between the spaces of a line
+-- the words of a line, which its spaces separate
 abbrev pub words_in : List ℕ → List (List ℕ)
 words_in line = filter (λ word. nat_lt 0 (length word)) (slice_split is_space line)
 
--- two integers are a pair
+-- the pair of two integers, if both are there
 abbrev pub pair_of : Option ℤ → Option ℤ → Option Pair
 pair_of octets count =
     option_and_then (λ o. option_map (λ c. record { octets = o; count = c }) count) octets
@@ -46,11 +46,11 @@ is_sum_line line = is_some (pair_in line)
 abbrev pub pairs_in : List (List ℕ) → List Pair
 pairs_in lines = filter_map pair_in lines
 
--- whether a byte belongs to a word: it is no space and no line feed
+-- whether a byte belongs to a word: it is neither a space nor a line feed
 abbrev pub is_in_word : ℕ → Bool
 is_in_word b = not (is_space b || is_line_feed b)
 
--- the pair of the sum line that the bytes begin with, and what stands behind its line feed
+-- the pair of the sum line that the bytes begin with, and the bytes after its line feed
 abbrev pub sum_line_at : List ℕ → Option (Pair × List ℕ)
 sum_line_at bytes =
     if list_any is_line_feed bytes

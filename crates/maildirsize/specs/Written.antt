@@ -1,11 +1,11 @@
--- The one written spelling of a ledger.
+-- The one spelling in which a ledger is written.
 use Rattle.std.specs.Prelude.{◌<◌, ℕ, unsigned_abs, List, ◌++◌, Option, Some, None, codes, decimal}
 use Rattle.std.specs.Fmt.{signed_decimal}
 use Rattle.std.specs.List.{flat_map}
 use Rattle.quota_units.specs.Limiting.{LimitNumbers}
 use Rattle.maildirsize.specs.Sums.{Pair}
 
--- S before C, and `0S` where no limit is set
+-- S before C, and `0S` if no limit is set
 abbrev pub written_limits : Option ℕ → Option ℕ → List ℕ
 written_limits None None = codes "0S"
 written_limits (Some octets) None = decimal octets ++ codes "S"
@@ -26,7 +26,7 @@ abbrev pub written_ledger : LimitNumbers → List Pair → List ℕ
 written_ledger limits pairs =
     written_definition limits ++ (codes "\n" ++ flat_map written_line pairs)
 
--- the numbers of a line that is read back: below 10 ^ 18 in magnitude
+-- the numbers of a line that reads back: below 10 ^ 18 in magnitude
 pub record IsSmall (pair : Pair) : Type 0 where
   pub octets : unsigned_abs pair.octets < 1000000000000000000
   pub count : unsigned_abs pair.count < 1000000000000000000

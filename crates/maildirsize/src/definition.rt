@@ -15,12 +15,13 @@ pub(crate) struct Member {
     limit: Option<u64>,
 }
 
-/// The limits that the first line of a ledger defines, whatever stands behind it; `None` where
-/// there are no bytes, and where that line is no definition.
+/// The limits that the first line of a ledger defines, whatever comes after it; `None` if there are
+/// no bytes, or if that line is not a definition.
 ///
-/// A definition is empty or has members with commas between them (Maildir++): one or more digits
-/// and a letter, `S` for octets and `C` for messages. A number above 9007199254740991 is cut at it,
-/// and 0 is no limit.
+/// A definition is empty, or has members with commas between them (Maildir++). A member is one or
+/// more digits and a letter: `S` for octets and `C` for messages. Members with other letters are
+/// skipped, and of several members with one letter only the last counts. A number above
+/// 9007199254740991 is cut at it, and 0 sets no limit.
 pub fn definition_of(bytes: &[u8]) -> Option<Limits>
     ensures { result ≡ definition_of bytes.now }
 {
@@ -34,7 +35,7 @@ pub fn definition_of(bytes: &[u8]) -> Option<Limits>
 }
 
 /// The limits of octets and of messages that the first line of the bytes defines, and the bytes
-/// behind that line, which are none or begin with its line feed.
+/// after that line, which are none or begin with a line feed.
 ///
 /// # Errors
 ///
@@ -63,8 +64,8 @@ pub(crate) fn limits_from(octets: Option<u64>, count: Option<u64>) -> Limits
     Limits::new(octets, count).unwrap()
 }
 
-/// The limits of octets and of messages that the members of the first line set, and the bytes
-/// behind that line.
+/// The limits of octets and of messages that the members of the first line set, and the bytes after
+/// that line.
 ///
 /// # Errors
 ///
@@ -94,7 +95,7 @@ fn leading_members(bytes: &[u8]) -> Result<(Option<u64>, Option<u64>, &[u8]), us
 }
 
 /// The member that the bytes begin with, up to a comma or the line's end, and the bytes from there
-/// on; `None` where no member stands there.
+/// on; `None` if the bytes do not begin with a member.
 fn leading_member(bytes: &[u8]) -> Option<(Member, &[u8])>
     ensures member { MatchOption result (member_in (take_while is_in_member bytes.now) ≡ None)
         (λ r. (member_in (take_while is_in_member bytes.now) ≡ Some r.0)
@@ -116,7 +117,7 @@ fn leading_member(bytes: &[u8]) -> Option<(Member, &[u8])>
     ))
 }
 
-/// The limit that members set for a letter, where those before this member set another.
+/// The limit for a letter after this member, if the members before it set the limit `before`.
 fn limit_after(before: Option<u64>, member: Member, letter: u8) -> Option<u64>
     ensures { result ≡ (if member.letter == letter then member.limit else before) }
 {
@@ -127,7 +128,7 @@ fn limit_after(before: Option<u64>, member: Member, letter: u8) -> Option<u64>
     }
 }
 
-/// The limit that a number sets: none for 0.
+/// The limit that a number sets, cut at 9007199254740991; none for 0.
 fn limit_of(number: u64) -> Option<u64>
     ensures value { result ≡ limit_of number }
     ensures range { IfSome result IsLimit }

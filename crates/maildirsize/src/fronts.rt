@@ -4,11 +4,12 @@ ghost use Rattle.std.specs.Char.{is_ascii_digit};
 ghost use Rattle.std.specs.Str.Parse.{digits_value};
 ghost use Rattle.maildirsize.specs.Fronts.{skip_while, begins_with};
 
-/// What the number of leading digits is cut at, above each limit and each integer of a ledger.
+/// The number that leading digits stand for is cut here, above each limit and each integer of a
+/// ledger.
 pub(crate) const CUT: u64 = 1000000000000000000;
 
-/// The digits that the bytes begin with: the number that they write, cut at 10^18, and the bytes
-/// behind them.
+/// The number that the leading digits of the bytes stand for, cut at 10^18, and the bytes after
+/// those digits.
 #[tactic(auto, using(crate::proofs::DigitSteps::digit_step))]
 pub(crate) fn leading_digits(bytes: &[u8]) -> (u64, &[u8])
     ensures number { result.0 ≡ min (digits_value 10 (take_while is_ascii_digit bytes.now)) CUT }
@@ -24,7 +25,7 @@ pub(crate) fn leading_digits(bytes: &[u8]) -> (u64, &[u8])
     (number, &bytes[bytes.len()..])
 }
 
-/// The bytes behind this byte, where they begin with it.
+/// The bytes after a leading `byte`; `None` if `bytes` does not begin with it.
 pub(crate) fn behind_byte(bytes: &[u8], byte: u8) -> Option<&[u8]>
     ensures { MatchOption result (begins_with (λ b. b == byte) bytes.now ≡ false)
         (λ rest. bytes.now ≡ byte ∷ rest.now) }

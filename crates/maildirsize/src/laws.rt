@@ -1,6 +1,7 @@
 ghost use Rattle.maildirsize.specs.Laws.{OneReading, WrittenReadsBack};
 
-/// A law: a text is a ledger of one list of limits and pairs at most.
+/// A law: a text reads as a ledger in at most one way, with one set of limits and one list of
+/// pairs.
 pub fn one_reading()
     ensures { OneReading }
 {}

@@ -14,7 +14,7 @@ use crate::sum_line::leading_sum_line;
 use quota_units::Limits;
 use thiserror::Error;
 
-/// A ledger of so many bytes or more is no longer read.
+/// A ledger of this many bytes or more is not read.
 const FULL: usize = 5120;
 
 /// What a ledger says.
@@ -30,39 +30,41 @@ pub struct LedgerText {
     pub count: i128,
 }
 
-/// Why bytes are no ledger. The faults are looked for in this order.
+/// Why bytes are not a ledger. Faults are looked for in this order.
 #[derive(Clone, Copy, Debug, PartialEq, Eq, Error)]
 pub enum LedgerFault {
     /// There are 5120 bytes or more.
     #[error("a ledger has fewer than 5120 bytes, and not {length}")]
     TooLong { length: usize },
-    /// The first line is no definition: its first wrong member begins at this offset.
+    /// The first line is not a definition: its first wrong member begins at this offset.
     #[error("no member of a definition at {at}")]
     BadDefinition { at: usize },
-    /// The first line that is no sum line. The definition is line 1.
+    /// The first line that is not a sum line. The definition is line 1.
     #[error("line {line} is no sum line")]
     BadLine { line: u32 },
-    /// The text is empty, or its last line, which begins at this offset, has no line feed.
+    /// The text is empty, or its last line has no line feed. The last line begins at this offset.
     #[error("the line at {at} has no line feed")]
     Torn { at: usize },
 }
 
-/// Reads a ledger (Maildir++): a definition line and sum lines, each ended by a line feed. It takes
-/// no memory.
+/// Reads a ledger (Maildir++): a definition line and sum lines, each ended by a line feed. This
+/// allocates no memory.
 ///
-/// A sum line has two integers of at most 18 digits, octets and messages, with spaces round them.
+/// A sum line has two integers of at most 18 digits: octets, one or more spaces, and messages.
+/// There may be spaces before and after them.
 ///
 /// # Errors
 ///
-/// The text's first fault, in the order of `LedgerFault`. A definition without a line feed is torn
-/// at 0, whatever it holds.
+/// The text's first fault, in the order of `LedgerFault`. A text that is not too long and has no
+/// line feed is `Torn` at 0, whatever it holds.
 pub fn read_ledger(bytes: &[u8]) -> Result<LedgerText, LedgerFault>
-    // What is read is a ledger, and these are its limits, its number of sum lines and their sums.
+    // A text that is read is a ledger, and the result has its limits, its number of sum lines and
+    // their sums.
     ensures readable { IfOk result (SumsUp bytes.now) }
-    // Each ledger is read, with these limits and pairs.
+    // Every ledger is read, and the result sums up its limits and pairs.
     ensures only { (limits : LimitNumbers) (pairs : List Pair) → Reads bytes.now limits pairs
         → IsOkAnd result (λ ledger. ledger ≡ summary limits pairs) }
-    // What is refused has this fault first, and what has a fault is refused.
+    // A text is refused exactly if it has a fault, and the error is its first fault.
     ensures fault { result_err result ≡ fault_of bytes.now }
 {
     if bytes.len() >= FULL {
@@ -79,12 +81,12 @@ pub fn read_ledger(bytes: &[u8]) -> Result<LedgerText, LedgerFault>
     }
 }
 
-/// The ledger of these limits and of the sum lines behind the definition of a text of so many
-/// bytes.
+/// The ledger of these limits and of the sum lines in `bytes`, which come after the definition line
+/// of a text of `text_length` bytes.
 ///
 /// # Errors
 ///
-/// The fault of the first line that is no sum line, or that no line feed ends.
+/// The fault of the first line that is not a sum line or has no line feed.
 fn read_summed(limits: Limits, text_length: usize, bytes: &[u8]) -> Result<LedgerText, LedgerFault>
     requires within { length bytes.now ≤ text_length }
     requires short { text_length < FULL }
@@ -126,8 +128,8 @@ fn definition_fault(bytes: &[u8], at: usize) -> LedgerFault
     }
 }
 
-/// The fault of a line that is no sum line with its line feed: its number, or the offset at which
-/// it begins.
+/// The fault of a line that is not a sum line with its line feed: `BadLine` with its number, or
+/// `Torn` with the offset at which it begins if no line feed follows.
 fn sum_line_fault(bytes: &[u8], line: u32, at: usize) -> LedgerFault
     ensures { result ≡ (if list_any is_line_feed bytes.now then LedgerFault.BadLine line
         else LedgerFault.Torn at) }

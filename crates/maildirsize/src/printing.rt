@@ -5,10 +5,10 @@ use crate::text::Text;
 use itoa::Buffer;
 use quota_units::{Limits, Totals};
 
-/// Sets the text to the written definition of the limits, such as `10000000S,1000C`; `0S` where
-/// none is set.
+/// Sets the text to the written definition of the limits, such as `10000000S,1000C`; `0S` if none
+/// is set.
 ///
-/// It has no line feed (Maildir++).
+/// The text has no line feed (Maildir++).
 pub fn print_definition(limits: &Limits, out: &mut Text)
     ensures { out.new ≡ written_definition limits.now }
 {
@@ -16,8 +16,8 @@ pub fn print_definition(limits: &Limits, out: &mut Text)
     push_definition(limits, out);
 }
 
-/// Sets the text to the written sum line of so many octets and messages, such as `-1234 -1`, with
-/// its line feed.
+/// Sets the text to the written sum line of these octets and messages, such as `-1234 -1`, with its
+/// line feed. Both numbers must be below 10^18 in magnitude.
 pub fn print_line(octets: i64, count: i64, out: &mut Text)
     requires { IsSmall (record { octets = octets; count = count }) }
     ensures { out.new ≡ written_line (record { octets = octets; count = count }) }
@@ -29,7 +29,7 @@ pub fn print_line(octets: i64, count: i64, out: &mut Text)
 /// Sets the text to a whole ledger: the written definition of the limits, and one sum line of the
 /// totals.
 ///
-/// Each of its two lines has a line feed.
+/// Each of the two lines has a line feed. Both totals must be below 2^63.
 pub fn print_folded(limits: &Limits, totals: &Totals, out: &mut Text)
     requires octets { totals.now.octets < 2 ^ 63 }
     requires count { totals.now.count < 2 ^ 63 }

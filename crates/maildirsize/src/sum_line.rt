@@ -5,8 +5,8 @@ ghost use Rattle.maildirsize.specs.SumLine.{is_space, is_in_word, magnitude_in, 
 
 use crate::fronts::{CUT, behind_byte, leading_digits};
 
-/// The octets and the messages of the sum line that the bytes begin with, and the bytes behind its
-/// line feed; `None` where the first line is no sum line, or no line feed ends it.
+/// The octets and the messages of the sum line that the bytes begin with, and the bytes after its
+/// line feed; `None` if the first line is not a sum line or has no line feed.
 pub(crate) fn leading_sum_line(bytes: &[u8]) -> Option<(i64, i64, &[u8])>
     ensures line { MatchOption result (sum_line_at bytes.now ≡ None)
         (λ r. sum_line_at bytes.now ≡ Some (record { octets = r.0; count = r.1 }, r.2.now)) }
@@ -19,7 +19,7 @@ pub(crate) fn leading_sum_line(bytes: &[u8]) -> Option<(i64, i64, &[u8])>
     Some((octets, count, rest))
 }
 
-/// The bytes behind the spaces that they begin with.
+/// The bytes after the spaces that they begin with.
 fn behind_spaces(bytes: &[u8]) -> &[u8]
     ensures { result.now ≡ skip_while is_space bytes.now }
 {
@@ -30,8 +30,8 @@ fn behind_spaces(bytes: &[u8]) -> &[u8]
     rest
 }
 
-/// The integer that is the first word of the bytes, and the bytes behind it; `None` where that word
-/// is no integer.
+/// The first word of the bytes as an integer, and the bytes after that word; `None` if the word is
+/// not an integer.
 fn leading_integer(bytes: &[u8]) -> Option<(i64, &[u8])>
     ensures integer { MatchOption result (integer_in (take_while is_in_word bytes.now) ≡ None)
         (λ r. (integer_in (take_while is_in_word bytes.now) ≡ Some r.0)
@@ -50,8 +50,8 @@ fn leading_integer(bytes: &[u8]) -> Option<(i64, &[u8])>
     }
 }
 
-/// The number of 1 to 18 digits that is the first word of the bytes, and the bytes behind it;
-/// `None` where that word is no such number.
+/// The first word of the bytes as a number of 1 to 18 digits, and the bytes after that word; `None`
+/// if the word is not such a number.
 fn leading_magnitude(bytes: &[u8]) -> Option<(u64, &[u8])>
     ensures number { MatchOption result (magnitude_in (take_while is_in_word bytes.now) ≡ None)
         (λ r. (magnitude_in (take_while is_in_word bytes.now) ≡ Some r.0)

@@ -49,7 +49,7 @@ impl Text {
         &self.bytes[..self.length]
     }
 
-    /// Leaves no byte.
+    /// Empties the text.
     pub(crate) fn clear(&mut self)
         ensures { self.new ≡ [] }
     {

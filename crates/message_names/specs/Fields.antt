@@ -1,5 +1,5 @@
--- The fields of a unique part: what its commas part. A place that names a size is a field behind
--- the base that states one.
+-- The fields of a unique part are the pieces between its commas. A place that names a size is a
+-- field that states one and comes after the base.
 use Rattle.std.specs.Prelude.{ℕ, ◌&&◌, ◌==◌, if◌then◌else◌, List, [], ◌∷◌, Option, None}
 use Rattle.message_names.specs.Sizes.{size_in_digits}
 

@@ -1,11 +1,11 @@
--- The flags of a file name (Maildir): letters behind a leading `2,` of the info part.
+-- The flags of a file name (Maildir): letters after a leading `2,` of the info part.
 use Rattle.std.specs.Prelude.{ℕ, not, ◌&&◌, ◌==◌, if◌then◌else◌, List, [], ◌∷◌}
 use Rattle.std.specs.List.{filter}
 use Rattle.quota_units.specs.declared.flags.Flags.{Flags}
 use Rattle.quota_units.specs.Flagging.{is_flag_letter, flags_among}
 use Rattle.message_names.specs.Parts.{info_of}
 
--- what follows a leading `2,`, and nothing where the info part begins with something else
+-- the bytes after a leading `2,`; none if the info part begins with something else
 abbrev pub behind_two : List ℕ → List ℕ
 behind_two [] = []
 behind_two (a ∷ []) = []

@@ -7,14 +7,14 @@ use Rattle.message_names.specs.FlagLetters.{flags_of, others_of}
 use Rattle.message_names.specs.Messages.{octets_of, message_of}
 use Rattle.message_names.specs.Written.{is_base, written_name, renamed}
 
--- `size_named` gives the size of the first place of the unique part, and nothing else does
+-- the size that the unique part names is the one that `size_named` gives, and no other
 abbrev pub OneSize : Type 0
 OneSize =
     (unique : List ℕ)
     → IsSizeNamed unique (size_named unique)
     × ((size : Option ℕ) → IsSizeNamed unique size → size ≡ size_named unique)
 
--- a written name tells the message that was written, its size cut, whatever the file's length
+-- a written name gives back the message that was written, its size cut, whatever the file's length
 abbrev pub WrittenReadsBack : Type 0
 WrittenReadsBack =
     (base : List ℕ) (size : ℕ) (flags : Flags) (length : ℕ)
@@ -25,8 +25,8 @@ WrittenReadsBack =
       flags = flags;
     }
 
--- a name with new flags has the same unique part, these flags, and the other bytes behind them; so
--- it tells the same message but for its flags, whatever the file's length
+-- a name with new flags has the same unique part, the new flags, and the other bytes after them; so
+-- it gives the same message but for its flags, whatever the file's length
 pub record IsRenamed (before after : List ℕ) (given : Flags) : Type 0 where
   pub unique : unique_of after ≡ unique_of before
   pub flags : flags_of after ≡ given

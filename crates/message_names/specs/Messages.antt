@@ -1,4 +1,4 @@
--- The message that a file's name and length tell.
+-- The message that a file's name and length give.
 use Rattle.std.specs.Prelude.{ℕ, List}
 use Rattle.quota_units.specs.declared.flags.Flags.{Flags}
 use Rattle.message_names.specs.Parts.{unique_of, base_of}

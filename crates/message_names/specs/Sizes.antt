@@ -10,44 +10,44 @@ use Rattle.message_names.specs.Parts.{is_comma}
 abbrev pub cut : ℕ → ℕ
 cut octets = min octets 1099511627775
 
--- the size that one or more digits write
+-- the size that one or more digits stand for, cut
 abbrev pub size_in_digits : List ℕ → Option ℕ
 size_in_digits digits =
     if nat_lt 0 (length digits)
     && list_all is_ascii_digit digits then Some (cut (digits_value 10 digits)) else None
 
--- what follows `,S=`, where the bytes begin with it
+-- the bytes after `,S=`, if the bytes begin with it
 abbrev pub behind_mark : List ℕ → Option (List ℕ)
 behind_mark [] = None
 behind_mark (a ∷ []) = None
 behind_mark (a ∷ b ∷ []) = None
 behind_mark (a ∷ b ∷ c ∷ rest) = if is_comma a && (b == 83 && c == 61) then Some rest else None
 
--- the size that a place names, by the bytes from there on: `,S=`, and then digits up to a comma or
--- to the end
+-- the size that a place names, from the bytes that begin there: `,S=`, and then digits up to a
+-- comma or to the end
 abbrev pub size_at : List ℕ → Option ℕ
 size_at bytes =
     option_and_then (λ rest. size_in_digits (before_first is_comma rest)) (behind_mark bytes)
 
--- the size that the first of all places names
+-- the size at the first place that names one
 abbrev pub size_named : List ℕ → Option ℕ
 size_named [] = None
 size_named (b ∷ bytes) = option_or (size_at (b ∷ bytes)) (size_named bytes)
 
--- whether digits end there: at a comma, or at the end
+-- whether digits end before these bytes: at a comma, or at the end
 abbrev pub ends_digits : List ℕ → Bool
 ends_digits [] = true
 ends_digits (b ∷ bytes) = is_comma b
 
--- The unique part has a place that names a size: these bytes before it, `,S=`, one or more digits,
--- and behind them nothing or a comma and more.
+-- The unique part has a place that names a size: these bytes come before it, then come `,S=` and
+-- one or more digits, and after them nothing or a comma and more.
 pub record SizePlace (unique before digits behind : List ℕ) : Type 0 where
   pub whole : unique ≡ before ++ (codes ",S=" ++ (digits ++ behind))
   pub some : 0 < length digits
   pub digits_only : list_all is_ascii_digit digits ≡ true
   pub ended : ends_digits behind ≡ true
 
--- the size is that of a place, and no place stands before it
+-- the size is that of a place, and no other place comes before it
 pub record NamesSize (unique : List ℕ) (size : ℕ) : Type 0 where
   pub before : List ℕ
   pub digits : List ℕ
@@ -60,7 +60,7 @@ pub record NamesSize (unique : List ℕ) (size : ℕ) : Type 0 where
 abbrev pub NamesNoSize : List ℕ → Type 0
 NamesNoSize unique = (b d e : List ℕ) → SizePlace unique b d e → ⊥
 
--- the size is that of the first place, and there is none exactly where there is no place
+-- the size is that of the first place, and there is none exactly if there is no place
 abbrev pub IsSizeNamed : List ℕ → Option ℕ → Type 0
 IsSizeNamed unique None = NamesNoSize unique
 IsSizeNamed unique (Some size) = NamesSize unique size

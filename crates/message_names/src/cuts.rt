@@ -4,8 +4,8 @@ ghost use Rattle.message_names.specs.FlagLetters.{behind_two};
 
 use memchr::memchr;
 
-/// The bytes before the first separator and those behind it; all and none where there is no
-/// separator.
+/// The bytes before the first separator, and the bytes after it; all the bytes and none if there is
+/// no separator.
 pub(crate) fn around_first(separator: u8, bytes: &[u8]) -> (&[u8], &[u8])
     ensures before { result.0.now ≡ before_first (λ b. b == separator) bytes.now }
     ensures after { result.1.now ≡ after_first (λ b. b == separator) bytes.now }
@@ -16,7 +16,7 @@ pub(crate) fn around_first(separator: u8, bytes: &[u8]) -> (&[u8], &[u8])
     }
 }
 
-/// The bytes behind a leading `2,` of an info part; none where it begins with something else.
+/// The bytes after a leading `2,` of an info part; none if the part begins with something else.
 pub(crate) fn behind_two(info: &[u8]) -> &[u8]
     ensures { result.now ≡ behind_two info.now }
 {

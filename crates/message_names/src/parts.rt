@@ -10,30 +10,30 @@ use quota_units::Flags;
 /// What a message file name holds. The parts are borrowed from the name.
 #[derive(Clone, Copy, Debug, PartialEq, Eq)]
 pub struct NameParts<'a> {
-    /// What stands before the first `:`, or all of the name.
+    /// The bytes before the first `:`, or the whole name.
     pub unique: &'a [u8],
-    /// What stands before the first `,` of the unique part, or all of that part.
+    /// The bytes before the first `,` of the unique part, or that whole part.
     pub base: &'a [u8],
     /// The octets that the unique part states, cut at 1099511627775.
     pub size: Option<u64>,
-    /// What follows the first `:`, or nothing.
+    /// The bytes after the first `:`, or none.
     pub info: &'a [u8],
-    /// The flags that the info part states: its letters behind a leading `2,`.
+    /// The flags that the info part states: the letters after its leading `2,`.
     pub flags: Flags,
 }
 
-/// The parts of a message file name (Maildir++). Every list of bytes is a name, and it takes no
-/// memory.
+/// The parts of a message file name (Maildir++). Every list of bytes is a name. Parsing allocates
+/// no memory.
 ///
-/// The size is stated at the first place of the unique part where `,S=` is followed by one or more
-/// digits, and these by a comma or by the end.
+/// The size is stated at the first place in the unique part where `,S=` is followed by one or more
+/// digits and then by a comma or the end of the part.
 pub fn parse_name(name: &[u8]) -> NameParts<'_>
     ensures unique { result.unique.now ≡ unique_of name.now }
     ensures base { result.base.now ≡ base_of name.now }
     ensures info { result.info.now ≡ info_of name.now }
     ensures flags { result.flags ≡ flags_of name.now }
     ensures size { result.size ≡ size_named (unique_of name.now) }
-    // The size is that of the first place which qualifies, and there is none exactly where no place
+    // The size is that of the first place that qualifies, and there is none exactly if no place
     // does.
     ensures first_place { IsSizeNamed (unique_of name.now) result.size }
 {
@@ -48,8 +48,8 @@ pub fn parse_name(name: &[u8]) -> NameParts<'_>
     }
 }
 
-/// The base of a message file name: what stands before the first `,` of its unique part, or all of
-/// that part. Size and flags are not read. It takes no memory.
+/// The base of a message file name: the bytes before the first `,` of its unique part, or that
+/// whole part. Size and flags are not read. This allocates no memory.
 pub fn base_of(name: &[u8]) -> &[u8]
     ensures { result.now ≡ base_of name.now }
 {

@@ -8,16 +8,16 @@ use crate::parts::NameParts;
 /// What a size is cut at: 2^40 - 1 octets.
 const LARGEST_SIZE: u64 = 1099511627775;
 
-/// The octets of a message whose file has this name and so many bytes: the size that the name
-/// states, or else the length, each cut at 1099511627775.
+/// The octets of a message whose file has this name and `length` bytes: the size that the name
+/// states, or else `length`, each cut at 1099511627775.
 pub fn size_of(parts: &NameParts<'_>, length: u64) -> u64
     ensures { result ≡ size_or parts.now.size length }
 {
     parts.size.unwrap_or(length).min(LARGEST_SIZE)
 }
 
-/// The size that the first field `S=` with digits alone states, among fields with commas between
-/// them.
+/// The size that the first field of the form `S=` and digits states, among fields with commas
+/// between them.
 pub(crate) fn size_in_fields(fields: &[u8]) -> Option<u64>
     ensures { result ≡ size_named (44 ∷ fields.now) }
 {
@@ -43,7 +43,7 @@ fn size_in_field(field: &[u8]) -> Option<u64>
     }
 }
 
-/// The size that one or more digits write, cut; `None` for other bytes.
+/// The size that one or more digits stand for, cut; `None` for other bytes.
 #[tactic(auto, using(crate::proofs::DigitSteps::digit_step))]
 fn size_in_digits(digits: &[u8]) -> Option<u64>
     ensures { result ≡ size_in_digits digits.now }

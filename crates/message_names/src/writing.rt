@@ -34,19 +34,21 @@ impl From<AllocError> for NameFault {
 /// The letters that name flags, in alphabetical order.
 const LETTERS: [u8; 6] = *b"DFPRST";
 
-/// The file name of a message: `base,S=size`, and where flags are set `:2,` and their letters in
+/// The file name of a message: `base,S=size`, and, if flags are set, `:2,` and their letters in
 /// alphabetical order.
 ///
-/// `size` is a number of octets. It is written uncut, and cut at 1099511627775 where it is read
+/// `size` is a number of octets. It is written in full, and cut at 1099511627775 when it is read
 /// (Maildir++).
 ///
 /// # Errors
 ///
-/// `BadBase` where the base is empty, begins with `.`, or holds `,`, `:`, `/`, byte 0 or byte 10.
+/// `BadBase` if the base is empty, begins with `.`, or holds `,`, `:`, `/`, byte 0 or byte 10;
+/// `NoMemory` if memory runs out.
 pub fn print_name(alloc: Global, base: &[u8], size: u64, flags: Flags) -> Result<Vec<u8>, NameFault>
     ensures bad_base { (result ≡ Err NameFault.BadBase) ↔ (is_base base.now ≡ false) }
     ensures written { IfOk result (λ name. name.items ≡ written_name base.now size flags) }
-    // Whatever the file's length, the name tells this base, this size, cut, and these flags.
+    // Whatever the file's length, the name gives back this base, this size cut at 1099511627775,
+    // and these flags.
     ensures reads_back { IfOk result (λ name. (length : ℕ) → message_of name.items length
         ≡ record { base = base.now; octets = cut size; flags = flags }) }
 {
@@ -62,11 +64,16 @@ pub fn print_name(alloc: Global, base: &[u8], size: u64, flags: Flags) -> Result
 }
 
 /// The file name with these flags in place of its own: the unique part, `:2,`, the letters in
-/// alphabetical order, and then the other bytes that stood behind `2,`, in their order. No other
-/// bytes of the info part are kept.
+/// alphabetical order, and then the bytes after the old `2,` that name no flag, in their order. No
+/// other bytes of the info part are kept.
+///
+/// # Errors
+///
+/// `NoMemory` if memory runs out.
 pub fn with_flags(alloc: Global, name: &[u8], flags: Flags) -> Result<Vec<u8>, NoMemory>
     ensures renamed { IfOk result (λ after. after.items ≡ renamed name.now flags) }
-    // The new name has the same unique part, these flags, and the other bytes.
+    // The new name has the same unique part, these flags, and the bytes after the old `2,` that
+    // name no flag.
     ensures reads_back { IfOk result (λ after. IsRenamed name.now after.items flags) }
 {
     let (unique, info) = around_first(b':', name);
@@ -99,7 +106,7 @@ fn is_base_byte(byte: u8) -> bool
     !matches!(byte, b',' | b':' | b'/' | 0 | b'\n')
 }
 
-/// Adds `:2,` and the letters where flags are set.
+/// Adds `:2,` and the letters if flags are set.
 fn push_flags(name: &mut Vec<u8>, flags: Flags) -> Result<(), AllocError>
     ensures { OnOk result (name.new.items ≡ name.old.items ++ written_flags flags) }
 {

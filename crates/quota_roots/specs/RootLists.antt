@@ -1,5 +1,5 @@
--- Lists of quota roots: what they may be called, which mailboxes they may have, and where each
--- stands. A root's number is its place.
+-- Lists of quota roots: which names and prefixes the roots may have, and the place of each. A
+-- root's number is its place.
 use Rattle.std.specs.Prelude.{◌≡◌, ◌<◌, ◌≤◌, ℕ, Bool, not, ◌&&◌, List, [], length, take, position, slice_get, codes, bytes_eq, nat_eq, nat_le, Option, None, Some}
 use Rattle.std.specs.List.{list_all, list_any, enumerate_from}
 use Rattle.std.specs.Option.{option_map_or}
@@ -10,13 +10,13 @@ use Rattle.quota_roots.specs.MailboxNames.{is_mailbox_name}
 abbrev pub is_root_name : List ℕ → Bool
 is_root_name name = nat_le (length name) 64 && list_all is_printable name
 
--- root 0 has no prefix, and each other root has a mailbox name other than Trash
+-- root 0 has no prefix, and the prefix of each other root is a mailbox name other than Trash
 abbrev pub is_prefix_at : ℕ → Option (List ℕ) → Bool
 is_prefix_at root None = nat_eq root 0
 is_prefix_at root (Some prefix) =
     not (nat_eq root 0) && (is_mailbox_name prefix && not (bytes_eq prefix (codes "Trash")))
 
--- the root may stand at this place
+-- the root may have this place
 abbrev pub is_root_at : ℕ → RootSpec → Bool
 is_root_at root spec = is_root_name spec.name && is_prefix_at root spec.prefix
 
@@ -28,7 +28,7 @@ first_bad_name roots = position (λ p. not (is_root_at p.0 p.1)) (enumerate_from
 abbrev pub has_name : List RootSpec → List ℕ → Bool
 has_name roots name = list_any (λ spec. bytes_eq spec.name name) roots
 
--- the first place whose root has the name of one before
+-- the first place whose root has the name of an earlier root
 abbrev pub first_double : List RootSpec → Option ℕ
 first_double roots = position (λ p. has_name (take p.0 roots) p.1.name) (enumerate_from 0 roots)
 
@@ -47,8 +47,8 @@ root_named roots name = position (λ spec. bytes_eq spec.name name) roots
 abbrev pub name_at : List RootSpec → ℕ → List ℕ
 name_at roots root = option_map_or (λ spec. spec.name) (slice_get roots root) []
 
--- the refusals of a list, each behind those above it: by the number of roots, by the root at a
--- place, and by its name
+-- the refusals of a list, each only if none above it applies: too many roots, a wrong name or
+-- prefix at this place, and the name of an earlier root at this place
 abbrev pub IsTooMany : List RootSpec → ℕ → Type 0
 IsTooMany roots count = (4 < length roots) × (count ≡ length roots)
 

@@ -1,4 +1,4 @@
--- Sets of root numbers below four, as bits: bit k is set where root k is in the set.
+-- Sets of root numbers below four, as bits: bit k is set if root k is in the set.
 use Rattle.std.specs.Prelude.{◌≡◌, ℕ, ◌^◌, ◌<◌, Bool, true, List, filter, nat_eq, sum_by, refl}
 use Rattle.std.specs.List.{list_any, range_with_len}
 use Rattle.std.specs.Int.{bit_at}
@@ -16,7 +16,7 @@ has_root roots root = list_any (λ other. nat_eq other root) roots
 abbrev pub bits_of : List ℕ → ℕ
 bits_of roots = sum_by (λ root. 2 ^ root) roots
 
--- a set of four roots at most has one number
+-- the members of a set give its bits back
 pub bits_of_members : (bits : ℕ) → bits < 16 → bits_of (members bits) ≡ bits
 unfolding members
 bits_of_members bits small = eqb-true _ _

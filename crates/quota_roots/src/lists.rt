@@ -4,7 +4,7 @@ use quota_units::{Limits, Name, NameError, NoMemory};
 use std::alloc::Global;
 use std::marker::Model;
 
-/// Limits, one after another.
+/// A list of limits.
 #[derive(Debug, Drop)]
 pub struct LimitsList {
     limits: Vec<Limits>,
@@ -20,7 +20,7 @@ impl Model for LimitsList {
 }
 
 impl LimitsList {
-    /// These limits. It takes no memory.
+    /// The list of these limits. This allocates no memory.
     pub fn new(limits: Vec<Limits>) -> LimitsList
         ensures { result ≡ limits.items }
     {
@@ -38,7 +38,7 @@ impl LimitsList {
     ///
     /// # Errors
     ///
-    /// There was no memory.
+    /// `NoMemory` if memory runs out.
     pub fn copy(&self, alloc: Global) -> Result<LimitsList, NoMemory>
         ensures { IfOk result (λ copy. copy ≡ self.now) }
     {
@@ -48,7 +48,7 @@ impl LimitsList {
     }
 }
 
-/// Names, one after another.
+/// A list of names.
 #[derive(Debug, Drop)]
 pub struct NameList {
     names: Vec<Name>,
@@ -63,7 +63,7 @@ impl Model for NameList {
 }
 
 impl NameList {
-    /// These names. It takes no memory.
+    /// The list of these names. This allocates no memory.
     pub fn new(names: Vec<Name>) -> NameList
         ensures { result ≡ names.items }
     {
@@ -81,7 +81,7 @@ impl NameList {
     ///
     /// # Errors
     ///
-    /// There was no memory.
+    /// `NoMemory` if memory runs out.
     pub fn copy(&self, alloc: Global) -> Result<NameList, NoMemory>
         ensures { IfOk result (λ copy. copy ≡ self.now) }
     {

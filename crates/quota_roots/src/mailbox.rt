@@ -4,12 +4,12 @@ ghost use Rattle.quota_roots.specs.MailboxNames.{canonical, is_mailbox_byte, is_
 use quota_units::{Name, NameError, is_printable};
 use std::alloc::Global;
 
-/// The one spelling of a mailbox name: `INBOX` for `INBOX` in any ASCII case (RFC 9051, section
-/// 5.1), and else the bytes as they are.
+/// The canonical spelling of a mailbox name: `INBOX` for `INBOX` in any ASCII case (RFC 9051,
+/// section 5.1), and any other bytes as they are.
 ///
 /// # Errors
 ///
-/// `TooLong` where there are more than 255 bytes.
+/// `TooLong` if there are more than 255 bytes; `NoMemory` if memory runs out.
 pub fn canonical_name(alloc: Global, bytes: &[u8]) -> Result<Name, NameError>
     ensures ok { IfOk result (λ name. name ≡ canonical bytes.now) }
     ensures too_long { (result ≡ Err (NameError.TooLong (length bytes.now)))
@@ -20,7 +20,7 @@ pub fn canonical_name(alloc: Global, bytes: &[u8]) -> Result<Name, NameError>
     Name::of(alloc, canonical_spelling(bytes))
 }
 
-/// The one spelling of a mailbox name of any length, as `canonical_name` has it.
+/// The canonical spelling of a mailbox name of any length, as in `canonical_name`.
 pub fn canonical_spelling(bytes: &[u8]) -> &[u8]
     ensures value { result.now ≡ canonical bytes.now }
     ensures length { (length result.now ≤ 255) ↔ (length bytes.now ≤ 255) }
@@ -32,8 +32,8 @@ pub fn canonical_spelling(bytes: &[u8]) -> &[u8]
     }
 }
 
-/// Whether the bytes may name a mailbox: 1 to 200 bytes from 0x20 to 0x7E without `/`, `*`, `%`,
-/// `"` and `\`, with `.` neither first nor last nor beside another.
+/// Whether the bytes may name a mailbox: 1 to 200 bytes from 0x20 to 0x7E, none of them `/`, `*`,
+/// `%`, `"` or `\`, with no `.` at the start, at the end or next to another `.`.
 #[tactic(auto, using(crate::proofs::MailboxLemmas::reads_all, crate::proofs::MailboxLemmas::reads_more, crate::proofs::MailboxLemmas::reads_end))]
 pub fn is_mailbox_name(bytes: &[u8]) -> bool
     ensures { result ≡ is_mailbox_name bytes.now }
@@ -41,7 +41,7 @@ pub fn is_mailbox_name(bytes: &[u8]) -> bool
     if bytes.len() > 200 {
         return false;
     }
-    // At the start and behind a dot neither a dot nor the end may come.
+    // Neither a dot nor the end may come at the start or after a dot.
     let mut at_edge = true;
     for byte in bytes {
         let dot = *byte == b'.';

@@ -7,7 +7,7 @@ use std::alloc::Global;
 /// A quota root: its name, and the prefix of the mailboxes that it governs.
 ///
 /// A root with no prefix governs every mailbox but `Trash`. A root with a prefix governs the
-/// mailbox of that name, and each whose name goes on behind it with `.`.
+/// mailbox of that name, and every mailbox whose name begins with the prefix and a `.`.
 #[derive(Debug, Drop)]
 pub struct RootSpec {
     pub name: Name,

@@ -41,7 +41,7 @@ impl RootSet {
         RootSet::none().with(root)
     }
 
-    /// The set with this root behind those that it has.
+    /// The set with this root added after the roots that it has.
     #[tactic(auto, using(crate::proofs::SetLemmas::with_small, crate::proofs::SetLemmas::with_members))]
     pub(crate) fn with(self, root: u32) -> RootSet
         requires above { All (λ other. other < root) self }

@@ -17,17 +17,17 @@ use thiserror::Error;
 /// The most quota roots that an account has.
 pub const MAX_ROOTS: u32 = 4;
 
-/// Why a list of quota roots is refused. A place counts from 0.
+/// Why a list of quota roots is refused. Places count from 0.
 #[derive(Clone, Copy, Debug, PartialEq, Eq, Error)]
 pub enum RootsError {
     /// There are more than 4 roots.
     #[error("there are at most 4 quota roots, and not {count}")]
     TooMany { count: usize },
-    /// The root at this place has a name or a prefix that it may not have, or has no prefix where
-    /// it needs one.
+    /// The root at this place has a name or a prefix that it may not have, or lacks a prefix that
+    /// it needs.
     #[error("quota root {at} has a wrong name or prefix")]
     BadName { at: u32 },
-    /// The root at this place has the name of one before it.
+    /// The root at this place has the name of an earlier root.
     #[error("quota root {at} has the name of one before it")]
     Double { at: u32 },
 }
@@ -85,7 +85,7 @@ fn root_named(specs: &[RootSpec], name: &[u8]) -> Option<usize>
     specs.iter().position(|spec| spec.name.as_slice() == name)
 }
 
-/// The place of the first root that has the name of one before it. Places count from 0.
+/// The place of the first root that has the name of an earlier root. Places count from 0.
 #[tactic(auto, using(crate::proofs::ListLemmas::double_here, crate::proofs::ListLemmas::double_nowhere))]
 pub fn first_double(specs: &[RootSpec]) -> Option<usize>
     ensures value { result ≡ first_double specs.now }
@@ -139,8 +139,8 @@ fn copy_specs(alloc: Global, specs: &[RootSpec]) -> Result<Vec<RootSpec>, NoMemo
     Ok(copy)
 }
 
-/// The quota roots of an account: 1 to 4, each with a name of its own. Their numbers are their
-/// places, from 0 on.
+/// The quota roots of an account: 1 to 4, each with a name of its own. A root's number is its
+/// place, counted from 0.
 #[derive(Debug, Drop)]
 pub struct Roots {
     specs: Vec<RootSpec>,
@@ -161,13 +161,14 @@ impl Model for Roots {
 impl Roots {
     /// The roots of this list.
     ///
-    /// Root 0 has no prefix, and each other root has a mailbox name other than `Trash`. A name is
-    /// at most 64 bytes from 0x20 to 0x7E.
+    /// Root 0 must have no prefix, and the prefix of each other root must be a mailbox name other
+    /// than `Trash`. A root's name is at most 64 bytes from 0x20 to 0x7E.
     ///
     /// # Errors
     ///
-    /// `TooMany` above 4 roots; else `BadName` at the first root whose name or prefix is not so;
-    /// else `Double` at the first root with the name of one before it.
+    /// `TooMany` if there are more than 4 roots; else `BadName` for the first root whose name or
+    /// prefix breaks these rules; else `Double` for the first root that has the name of an earlier
+    /// root.
     pub fn new(specs: Vec<RootSpec>) -> Result<Roots, RootsError>
         requires { 0 < vec_len specs }
         ensures ok { IfOk result (λ roots. roots ≡ specs.items) }
@@ -194,7 +195,7 @@ impl Roots {
     ///
     /// # Errors
     ///
-    /// There was no memory.
+    /// `NoMemory` if memory runs out.
     pub fn copy(&self, alloc: Global) -> Result<Roots, NoMemory>
         ensures { IfOk result (λ copy. copy ≡ self.now) }
     {
@@ -245,8 +246,8 @@ impl Roots {
         roots_of(&self.specs, mailbox)
     }
 
-    /// The roots that govern the mailbox `to` and not the mailbox `from`: those that a message
-    /// comes under when it is moved.
+    /// The roots that govern the mailbox `to` and not the mailbox `from`: those that gain a message
+    /// when it moves from `from` to `to`.
     #[tactic(auto, using(crate::proofs::GoverningLemmas::gaining_all_below))]
     pub fn gained(&self, from: &[u8], to: &[u8]) -> RootSet
         ensures value { result ≡ gaining self.now from.now to.now }
@@ -257,8 +258,9 @@ impl Roots {
         gained(&self.specs, from, to)
     }
 
-    /// The roots that a message comes under which goes from one mailbox to another; one that is
-    /// delivered comes from none.
+    /// The roots that gain a message when it moves from the mailbox `from` to the mailbox `to`. If
+    /// `from` is `None`, the message is delivered to `to`, and every root that governs `to` gains
+    /// it.
     pub fn gainers(&self, from: Option<&[u8]>, to: &[u8]) -> RootSet
         ensures value { result ≡ gainers self.now (option_map (λ m. m.now) from.entry) to.now }
         ensures members { (root : ℕ) → has_root result root

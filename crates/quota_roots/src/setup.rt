@@ -32,7 +32,7 @@ impl Setup {
     ///
     /// # Errors
     ///
-    /// There was no memory.
+    /// `NoMemory` if memory runs out.
     pub fn copy(&self, alloc: Global) -> Result<Setup, NoMemory>
         ensures { IfOk result (λ copy. copy ≡ self.now) }
     {
@@ -44,8 +44,8 @@ impl Setup {
         })
     }
 
-    /// Whether the setup has limits for each root, 1 to 256 different mailboxes in their one
-    /// spelling, of which INBOX is the first, and a history of 1 to 524288 entries.
+    /// Whether the setup has limits for each root, 1 to 256 different mailboxes in canonical
+    /// spelling with INBOX first, and a history of 1 to 524288 entries.
     pub fn is_sound(&self) -> bool
         ensures { IsTrue result ↔ IsSound self.now }
     {
@@ -55,8 +55,7 @@ impl Setup {
     }
 }
 
-/// Whether these are 1 to 256 different mailboxes in their one spelling, of which INBOX is the
-/// first.
+/// Whether these are 1 to 256 different mailboxes in canonical spelling with INBOX first.
 fn are_mailboxes(mailboxes: &[Name]) -> bool
     ensures { IsTrue result ↔ AreMailboxes mailboxes.now }
 {
@@ -66,7 +65,7 @@ fn are_mailboxes(mailboxes: &[Name]) -> bool
     all_named(mailboxes) && are_different(mailboxes)
 }
 
-/// Whether each is a mailbox name in its one spelling.
+/// Whether each is a mailbox name in canonical spelling.
 fn all_named(mailboxes: &[Name]) -> bool
     ensures { result ≡ list_all is_mailbox mailboxes.now }
 {
@@ -82,14 +81,14 @@ fn begins_with_inbox(mailboxes: &[Name]) -> bool
     }
 }
 
-/// Whether the bytes are a mailbox name in its one spelling.
+/// Whether the bytes are a mailbox name in canonical spelling.
 fn is_mailbox(name: &[u8]) -> bool
     ensures { result ≡ is_mailbox name.now }
 {
     is_mailbox_name(name) && canonical_spelling(name) == name
 }
 
-/// Whether no name stands twice.
+/// Whether no name occurs twice.
 #[tactic(auto, using(crate::proofs::SetupLemmas::different_more, crate::proofs::SetupLemmas::different_end))]
 fn are_different(names: &[Name]) -> bool
     ensures { result ≡ are_different names.now }

@@ -2,11 +2,11 @@
 -- other call leaves it.
 use Rattle.std.specs.Prelude.{◌≡◌, ◌≤◌, ◌+◌, ◌-◌, ◌^◌, ℕ, min}
 
--- one more, if the type has a number for it; else the last number stays
+-- one more, or the largest number of the type if one more is above it
 abbrev pub next_count : ℕ → ℕ
 next_count before = min (before + 1) (2 ^ 64 - 1)
 
--- a count went up, or stands at the end of its type
+-- a count went up, or is at the largest number of its type
 abbrev pub Rose : ℕ → ℕ → Type 0
 Rose before now = next_count before ≤ now
 

@@ -4,7 +4,7 @@ use Rattle.std.specs.Prelude.{ℕ, Bool, false, ◌==◌, if◌then◌else◌, L
 use Rattle.std.specs.List.{filter, list_any}
 use Rattle.quota_units.specs.declared.flags.Flags.{Flags}
 
--- whether a byte stands among bytes
+-- whether a byte is among bytes
 abbrev pub is_among : List ℕ → ℕ → Bool
 is_among bytes b = list_any (λ x. x == b) bytes
 
@@ -15,7 +15,7 @@ flag_letters = codes "DFPRST"
 abbrev pub is_flag_letter : ℕ → Bool
 is_flag_letter b = is_among flag_letters b
 
--- whether the flag of a letter is set; a byte that names no flag is never set
+-- whether the flag of a letter is set; false for a byte that names no flag
 abbrev pub has_flag : Flags → ℕ → Bool
 has_flag flags letter =
     if letter == 68 then flags.draft
@@ -24,7 +24,7 @@ has_flag flags letter =
     else (if letter == 82 then flags.replied
     else (if letter == 83 then flags.seen else (if letter == 84 then flags.trashed else false)))))
 
--- the flags whose letters stand among bytes
+-- the flags whose letters are among bytes
 abbrev pub flags_among : List ℕ → Flags
 flags_among bytes =
     record {

@@ -2,7 +2,8 @@
 use Rattle.std.specs.Prelude.{◌<◌, ◌-◌, ◌^◌, ℕ, min}
 use Rattle.quota_units.specs.declared.totals.Totals.{Totals}
 
--- No account that tells comes so far: what is kept of a store that tells nothing is cut here.
+-- The numbers kept of a store that tells nothing are cut here. No account that tells its files
+-- reaches this number.
 abbrev pub most : ℕ
 most = 2 ^ 62 - 1
 

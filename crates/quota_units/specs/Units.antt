@@ -7,6 +7,6 @@ pub record IsLeastUnits (octets n : ℕ) : Type 0 where
   pub holds : octets ≤ 1024 * n
   pub least : (m : ℕ) → octets ≤ 1024 * m → n ≤ m
 
--- that number
+-- the least number of units that hold the octets
 abbrev pub units_of : ℕ → ℕ
 units_of octets = div_ceil octets 1024

@@ -20,7 +20,7 @@ pub fn number_in(bytes: &[u8]) -> Option<u64>
     Some(value)
 }
 
-/// The number whose one decimal spelling these bytes are: no sign, no leading zero, at most 19
+/// The number that these bytes spell as a decimal numeral: no sign, no leading zero, at most 19
 /// digits; `None` for other bytes.
 #[tactic(auto, using(crate::proofs::DigitLemmas::numeral_is, crate::proofs::DigitLemmas::numeral_read))]
 pub fn numeral_in(bytes: &[u8]) -> Option<u64>

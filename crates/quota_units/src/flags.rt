@@ -20,12 +20,12 @@ pub struct Flags {
 }
 
 impl Flags {
-    /// The flags of these letters, in any order and any number of times; `None` where another byte
-    /// stands among them.
+    /// The flags of these letters, which may come in any order and more than once; `None` if any
+    /// other byte is among them.
     pub fn of_letters(letters: &[u8]) -> Option<Flags>
         ensures some { IsSome result ↔ IsTrue (list_all is_flag_letter letters.now) }
         ensures value { IfSome result (λ flags. flags ≡ flags_among letters.now) }
-        // The flag of each letter is set exactly where that letter stands there.
+        // A flag is set exactly if its letter is among the bytes.
         ensures exact { IfSome result (λ flags. (letter : ℕ)
             → has_flag flags letter ≡ is_among letters.now letter) }
     {
@@ -36,7 +36,7 @@ impl Flags {
         }
     }
 
-    /// The flags whose letters stand among the bytes, whatever else stands there.
+    /// The flags whose letters are among the bytes. Other bytes are ignored.
     pub fn among(bytes: &[u8]) -> Flags
         ensures { result ≡ flags_among bytes.now }
     {

@@ -7,7 +7,7 @@ use thiserror::Error;
 /// The most storage units or messages that a limit can be set to.
 pub const MAX_LIMIT: u64 = 8796093022207;
 
-/// The most octets or messages that a limit has: 2^53 - 1, the largest whole number of JMAP (RFC
+/// The largest limit, in octets or in messages: 2^53 - 1, the largest whole number of JMAP (RFC
 /// 8620, section 1.3).
 pub const LARGEST_LIMIT: u64 = 9007199254740991;
 
@@ -22,8 +22,7 @@ pub enum LimitError {
     TooLarge(u64),
 }
 
-/// The limits of a quota root: octets and messages, each from 1 to 9007199254740991 where it is
-/// set.
+/// The limits of a quota root: octets and messages, each from 1 to 9007199254740991 if it is set.
 #[derive(Clone, Copy, Debug, PartialEq, Eq)]
 pub struct Limits {
     octets: Option<u64>,
@@ -43,7 +42,8 @@ impl Model for Limits {
 }
 
 impl Limits {
-    /// Limits of so many octets and so many messages; `None` where a set number is out of range.
+    /// Limits of `octets` octets and `count` messages; `None` if a number that is set is out of
+    /// range.
     pub fn new(octets: Option<u64>, count: Option<u64>) -> Option<Limits>
         ensures some { IsSome result ↔ AreLimits (record { octets = octets; count = count }) }
         ensures value { IfSome result
@@ -56,7 +56,7 @@ impl Limits {
         }
     }
 
-    /// The most octets, where they are limited.
+    /// The most octets, if they are limited.
     pub fn octets(&self) -> Option<u64>
         ensures value { result ≡ self.now.octets }
         ensures range { IfSome result IsLimit }
@@ -64,7 +64,7 @@ impl Limits {
         self.octets
     }
 
-    /// The most messages, where they are limited.
+    /// The most messages, if they are limited.
     pub fn count(&self) -> Option<u64>
         ensures value { result ≡ self.now.count }
         ensures range { IfSome result IsLimit }
@@ -86,7 +86,7 @@ fn in_range(limit: Option<u64>) -> bool
 ///
 /// # Errors
 ///
-/// `Zero` where `n` is 0, and `TooLarge` where it is above 8796093022207.
+/// `Zero` if `n` is 0, and `TooLarge` if it is above 8796093022207.
 pub fn limit_of_units(n: u64) -> Result<u64, LimitError>
     ensures ok { IsOk result ↔ ((1 ≤ n) × (n ≤ MAX_LIMIT)) }
     ensures value { IfOk result (λ octets. octets ≡ 1024 * n) }
@@ -106,7 +106,7 @@ pub fn limit_of_units(n: u64) -> Result<u64, LimitError>
 ///
 /// # Errors
 ///
-/// `Zero` where `n` is 0, and `TooLarge` where it is above 8796093022207.
+/// `Zero` if `n` is 0, and `TooLarge` if it is above 8796093022207.
 pub fn limit_of_count(n: u64) -> Result<u64, LimitError>
     ensures ok { IsOk result ↔ ((1 ≤ n) × (n ≤ MAX_LIMIT)) }
     ensures value { IfOk result (λ count. count ≡ n) }

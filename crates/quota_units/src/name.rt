@@ -5,7 +5,7 @@ use std::alloc::{AllocError, Global};
 use std::marker::Model;
 use thiserror::Error;
 
-/// Why bytes are no name.
+/// Why bytes are not a name.
 #[derive(Clone, Copy, Debug, PartialEq, Eq, Error)]
 pub enum NameError {
     /// There are more than 255 bytes.
@@ -44,7 +44,7 @@ impl Name {
     ///
     /// # Errors
     ///
-    /// `TooLong` where there are more than 255 bytes.
+    /// `TooLong` if there are more than 255 bytes; `NoMemory` if memory runs out.
     pub fn of(alloc: Global, bytes: &[u8]) -> Result<Name, NameError>
         ensures ok { IfOk result (λ name. name ≡ bytes.now) }
         ensures too_long { (result ≡ Err (NameError.TooLong (length bytes.now)))
@@ -62,11 +62,11 @@ impl Name {
         })
     }
 
-    /// The name that this vector holds. No memory is taken.
+    /// The name that this vector holds. This allocates no memory.
     ///
     /// # Errors
     ///
-    /// `TooLong` where there are more than 255 bytes, and no other.
+    /// `TooLong` if there are more than 255 bytes. There is no other error.
     pub fn from_vec(bytes: Vec<u8>) -> Result<Name, NameError>
         ensures ok { IfOk result (λ name. name ≡ bytes.items) }
         ensures too_long { (result ≡ Err (NameError.TooLong (vec_len bytes)))

@@ -1,7 +1,7 @@
 ghost use Rattle.std.specs.Prelude.{◌≡◌, ◌+◌};
 ghost use Rattle.quota_units.specs.Sums.{AreSmall, cut_totals};
 
-/// What totals are cut at: 2^62 - 1. No account that tells its files comes so far.
+/// Totals are cut at this number: 2^62 - 1. No account whose keeper tells its files reaches it.
 pub const MOST: u64 = 4611686018427387903;
 
 /// What messages add up to: their octets, and how many there are.

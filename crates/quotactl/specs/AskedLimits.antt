@@ -17,7 +17,7 @@ is_resource Message (Some Storage) = false
 is_resource Message (Some Message) = true
 is_resource resource None = false
 
--- it is asked for this resource
+-- this limit is for this resource
 abbrev pub is_for : Resource → AskedLimit → Bool
 is_for resource asked = is_resource resource asked.resource
 
@@ -25,11 +25,11 @@ is_for resource asked = is_resource resource asked.resource
 abbrev pub number_for : Resource → List AskedLimit → Option ℕ
 number_for resource asked = option_map (λ x. x.limit) (find (is_for resource) asked)
 
--- this resource stands twice
+-- this resource occurs twice
 abbrev pub repeats : Resource → List AskedLimit → Bool
 repeats resource asked = nat_lt 1 (length (filter (is_for resource) asked))
 
--- a number of units or messages that can be set: 1 to 8796093022207
+-- the number of units or messages can be set, if it is given: 1 to 8796093022207
 abbrev pub can_be_set : Option ℕ → Bool
 can_be_set None = true
 can_be_set (Some n) = nat_le 1 n && nat_le n 8796093022207
@@ -39,15 +39,15 @@ limits_set units messages =
     if can_be_set units && can_be_set messages then Ok
     (record { octets = option_map (λ n. 1024 * n) units; count = messages }) else Err Unsupported
 
--- one is asked for no resource of this service
+-- a limit is asked for a resource that this service does not have
 abbrev pub has_unknown : List AskedLimit → Bool
 has_unknown asked = list_any (λ x. is_none x.resource) asked
 
--- a resource stands twice
+-- a resource occurs twice
 abbrev pub has_repeats : List AskedLimit → Bool
 has_repeats asked = repeats Storage asked || repeats Message asked
 
--- each limit that stands in the list, and no other
+-- the limits in the list and no others, or the first refusal
 abbrev pub limits_asked : List AskedLimit → Result LimitNumbers Refusal
 limits_asked asked =
     if has_unknown asked then Err Unknown

@@ -1,4 +1,4 @@
--- What `check` says of a ledger: what its bytes hold, or their first fault.
+-- What `check` says of a ledger: what its bytes hold, or the first thing that is wrong with them.
 use Rattle.std.specs.Prelude.{◌≡◌, ◌≤◌, ◌⊎◌, ℕ, ℤ, List, ◌++◌, length, codes, Option, Some}
 use Rattle.std.specs.Fmt.{decimal, signed_decimal}
 use Rattle.std.specs.Io.KnownBytes.{Consumes, Appends, Keeps, IsAtEnd}
@@ -9,11 +9,11 @@ use Rattle.maildirsize.specs.declared.ledger_text.LedgerFault.TheVariants.{TooLo
 use Rattle.maildirsize.specs.Reading.{SumsUp, fault_of}
 use Rattle.maildirsize.specs.Written.{written_definition}
 
--- the most bytes that are read
+-- the most bytes that are read of a ledger
 abbrev pub max_checked : ℕ
 max_checked = 65536
 
--- words, and what they say, on a line
+-- a line of these words and then this value
 abbrev pub said : List ℕ → List ℕ → List ℕ
 said words value = words ++ (value ++ codes "\n")
 
@@ -32,14 +32,14 @@ fault_text (BadDefinition at) = said (codes "bad definition at ") (decimal at)
 fault_text (BadLine line) = said (codes "bad line ") (decimal line)
 fault_text (Torn at) = said (codes "torn at ") (decimal at)
 
--- the text and the status that these bytes are answered with
+-- the text that `check` writes for these bytes, and the status
 pub data Tells (bytes text : List ℕ) (status : ℕ) : Type 0 where
   values : (ledger : LedgerText) → SumsUp bytes ledger → text ≡ values_text ledger → status ≡ 0
       → Tells bytes text status
   fault : (first : LedgerFault) → fault_of bytes ≡ Some first → text ≡ fault_text first → status ≡ 3
       → Tells bytes text status
 
--- these bytes came from the source: all that it had, or so many as are read
+-- these bytes came from the source: all that it had, or the most that are read
 pub record TakesLedger (left left' : Option (List ℕ)) (bytes : List ℕ) : Type 0 where
   pub consumed : Consumes left left' bytes
   pub bounded : length bytes ≤ max_checked
@@ -50,13 +50,13 @@ abbrev pub TakesSome : (left left' : Option (List ℕ)) → Type 0
 TakesSome left left' = (bytes : List ℕ) × Consumes left left' bytes
 
 pub data ChecksLedger (left left' written written' : Option (List ℕ)) (status : ℕ) : Type 0 where
-  -- what the bytes hold was written, or their fault
+  -- what the bytes hold was written, or what is wrong with them
   told : (bytes text : List ℕ) → TakesLedger left left' bytes → Tells bytes text status
       → Appends written written' text → ChecksLedger left left' written written' status
-  -- or a front of it
+  -- a write failed, and a proper prefix of that text was written
   cut : (bytes text : List ℕ) (due : ℕ) → TakesLedger left left' bytes → Tells bytes text due
       → AppendsPart written written' text → status ≡ 5
       → ChecksLedger left left' written written' status
-  -- reading failed, or there was no memory
+  -- a read failed or memory ran out, and nothing was written
   unread : TakesSome left left' → Keeps written written' → (status ≡ 4) ⊎ (status ≡ 6)
       → ChecksLedger left left' written written' status

@@ -1,4 +1,4 @@
--- What the program does with its words.
+-- What the program does with its arguments.
 use Rattle.std.specs.Prelude.{◌≡◌, ◌*◌, ℕ, List, [], codes, Option, Some, None}
 use Rattle.quota_units.specs.Limiting.{LimitNumbers}
 use Rattle.std.specs.Io.KnownBytes.{Appends, Keeps}
@@ -35,7 +35,7 @@ usage_line = codes
 abbrev pub units_of_storage : ℕ → LimitNumbers
 units_of_storage n = record { octets = Some (1024 * n); count = None }
 
--- an account with so many units of storage, before its first call
+-- an account with this many units of storage, before its first call
 abbrev pub fresh : ℕ → Owned
 fresh n = record { origin = plain_origin (units_of_storage n); history = [] }
 
@@ -43,31 +43,32 @@ abbrev pub fresh_owner : ℕ → Answers (List Entry) Call Answer
 fresh_owner n = owner plain_roots (plain_setup (units_of_storage n)).journal
     (plain_account (units_of_storage n))
 
--- the session of such an account that an input gives
+-- the session that an input gives, of an account with this many units of storage
 abbrev pub session_of : ℕ → List ℕ → Transcript
 session_of n input = transcript imap (fresh_owner n) input_limit [] input
 
--- what comes of an account with so many units, and of a session of it
+-- what happens if an account with this many units of storage is opened and a session of it is
+-- served
 pub data Runs (left left' written written' : Option (List ℕ)) (n status : ℕ) : Type 0 where
   -- the session was served to its end
   served : (account' : Owned) (end : SessionEnd) → IsSession left left' written written'
       (fresh n) account' end → status ≡ exit_status end → Runs left left' written written' n status
-  -- there was no memory for the account
+  -- memory ran out for the account
   no_account : Keeps left left' → Keeps written written' → status ≡ 6
       → Runs left left' written written' n status
 
--- what the program does, by its words
+-- what the program does, depending on its arguments
 pub data Controls (words : List (List ℕ)) (left left' written written' : Option (List ℕ))
     (status : ℕ) : Type 0 where
-  -- a session of an account with N units
+  -- the program serves a session of an account with `n` units
   runs : (n : ℕ) → IsForm words (Session n) → Runs left left' written written' n status
       → Controls words left left' written written' status
-  -- what a ledger holds
+  -- the program says what a ledger holds
   checks : IsForm words Check → ChecksLedger left left' written written' status
       → Controls words left left' written written' status
-  -- the words are of no form, and the usage line says so
+  -- the arguments are unrecognised, and the usage line was written
   refuses : IsNoForm words → Keeps left left' → Appends written written' usage_line → status ≡ 1
       → Controls words left left' written written' status
-  -- or a front of it does
+  -- the arguments are unrecognised, and a proper prefix of the usage line was written
   breaks_off : IsNoForm words → Keeps left left' → AppendsPart written written' usage_line
       → status ≡ 5 → Controls words left left' written written' status

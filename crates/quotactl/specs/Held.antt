@@ -15,7 +15,7 @@ pub record Owned : Type 0 where
 abbrev pub owned_of : State → Owned
 owned_of s = record { origin = s.origin; history = s.history }
 
--- the account has the one root of the empty name, and its store told what it was opened with
+-- the account has one root, of the empty name, and its opening account is known
 pub record IsPlainAccount (owned : Owned) : Type 0 where
   pub roots : owned.origin.roots ≡ plain_roots
   pub opening : Account

@@ -1,4 +1,4 @@
--- IMAP as a protocol: what a whole request is, what is done for it, and what answers it.
+-- IMAP as a protocol: what a whole request is, what is done for it, and how it is answered.
 use Rattle.std.specs.Prelude.{ℕ, Bool, true, ◌==◌, nat_le, nat_lt, if◌then◌else◌, List, [], length, Option, Some, None, Result, Ok, Err}
 use Rattle.std.specs.List.{list_any}
 use Rattle.wire_io.specs.Work.{Work, ask, say}
@@ -24,9 +24,9 @@ use Rattle.quotactl.specs.Texts.{name_too_long_text, logout_text, too_long_text,
 pub data Request : Type 0 where
   -- a command
   command : Tagged → Request
-  -- a line that is none that is built
+  -- a line that is not an implemented command
   not_built : Request
-  -- so many bytes without a line's end
+  -- `max_text` bytes without a line feed
   too_long : Request
 
 -- the most bytes of a command's text
@@ -37,7 +37,7 @@ abbrev pub line_request : Option Tagged → Request
 line_request (Some tagged) = command tagged
 line_request None = not_built
 
--- a line is a request, whatever it says, and so many bytes that hold no line's end are too long
+-- a line is a request, whatever it says; `max_text` bytes or more without a line feed are too long
 abbrev pub whole : List ℕ → Option Request
 whole text = if list_any (λ b. b == 10) text then Some (line_request (command_in true text))
     else if nat_le max_text (length text) then Some too_long else None
@@ -46,20 +46,20 @@ whole text = if list_any (λ b. b == 10) text then Some (line_request (command_i
 abbrev pub session_roots : List RootSpec
 session_roots = plain_roots
 
--- more bytes than a name has
+-- more bytes than a name may have
 abbrev pub is_too_long : List ℕ → Bool
 is_too_long name = nat_lt 255 (length name)
 
--- this call, and its answer told to the command with this tag
+-- this call, and then the answer to the command of this kind and tag
 abbrev pub ask_for : CommandKind → List ℕ → Call → Work Call Answer
 ask_for kind tag call = ask call (λ answer. say (answer_text session_roots kind tag answer) Open)
 
--- a call on the root of this name; no root has too long a name
+-- this call on the root of this name; if the name is too long, no root has it, and no call is made
 abbrev pub ask_root : CommandKind → List ℕ → List ℕ → Call → Work Call Answer
 ask_root kind tag root call =
     if is_too_long root then say (no_root_text tag) Open else ask_for kind tag call
 
--- the roots of the mailbox of this name
+-- the call for the roots of the mailbox of this name; if the name is too long, no call is made
 abbrev pub ask_mailbox : List ℕ → List ℕ → Work Call Answer
 ask_mailbox tag mailbox =
     if is_too_long mailbox then say (name_too_long_text tag) Open
@@ -91,6 +91,7 @@ imap = record {
   next = λ state request. state;
 }
 
--- IMAP goes on from each text to a whole request, and so cuts each text into requests in one way.
+-- Each text can be continued to a whole request of IMAP, and so IMAP cuts each text into requests
+-- in exactly one way.
 abbrev pub ImapCutsOneWay : Type 0
 ImapCutsOneWay = (text : List ℕ) → HasOneCut imap tt text

@@ -1,4 +1,5 @@
--- The account with its one owner, as a world that the owner's calls alone change: its history.
+-- The account with its one owner, as a world. The world is the account's history, which only the
+-- owner's calls change.
 use Rattle.std.specs.Prelude.{ℕ, Bool, false, nat_le, if◌then◌else◌, List, [], ◌∷◌, ◌++◌, length}
 use Rattle.wire_io.specs.Transcript.{Answers}
 use Rattle.quota_roots.specs.declared.root.RootSpec.{RootSpec}
@@ -10,8 +11,8 @@ use Rattle.account_core.specs.History.{Answer, replied, journal_full, reply, ent
 abbrev pub is_full : ℕ → List Entry → Bool
 is_full journal history = nat_le journal (length history)
 
--- What a call is answered after a history, and the history then, of an account with these roots
--- that was so when it was opened: each call is an entry, up to the journal's limit.
+-- The answer to a call after a history, and the history after the call, of an account with these
+-- roots and this opening account. Each call becomes an entry until the journal is full.
 abbrev pub owner : List RootSpec → (journal : ℕ) → (opening : Account)
     → Answers (List Entry) Call Answer
 owner roots journal opening = record {

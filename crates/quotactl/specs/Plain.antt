@@ -1,4 +1,4 @@
--- The account that `session` is for: that of the table of one account, opened over a store without
+-- The account that `session` serves: that of the table of one account, opened over a store without
 -- files.
 use Rattle.std.specs.Prelude.{Some}
 use Rattle.quota_units.specs.Limiting.{LimitNumbers}
@@ -12,7 +12,7 @@ use Rattle.accounts_file.specs.Hosts.{plain_roots, plain_setup}
 abbrev pub plain_account : LimitNumbers → Account
 plain_account limits = opening_account (plain_setup limits) 0 no_files
 
--- where its history begins
+-- where the account's history begins
 abbrev pub plain_origin : LimitNumbers → Origin
 plain_origin limits = record {
   roots = plain_roots;

@@ -18,7 +18,7 @@ use Rattle.quotactl.specs.Held.{Owned}
 use Rattle.quotactl.specs.Texts.{CommandKind, answer_text, greeting}
 use Rattle.quotactl.specs.Imap.{Request, session_roots, work, work_of, imap}
 
--- the most bytes of a session
+-- the most bytes that a session takes
 abbrev pub input_limit : ℕ
 input_limit = 1073741824
 
@@ -27,8 +27,9 @@ abbrev pub NeverStore : List (Call × Answer) → Type 0
 NeverStore [] = Unit {0}
 NeverStore ((call, answer) ∷ log) = (answer ≢ store) × NeverStore log
 
--- The calls of the account's one owner, with their answers: each is the machine's at the call's
--- place in the one history, which is the old one and these calls.
+-- The calls of the account's one owner, with their answers. Each answer is the account machine's at
+-- the call's place in the one history. That history is the old one, followed by the entries of
+-- these calls.
 pub record Owns (account account' : Owned) (log : List (Call × Answer)) : Type 0 where
   pub origin : account'.origin ≡ account.origin
   pub logged : Logged AreNone account.origin 0 account.history log account'.history
@@ -55,20 +56,20 @@ pub record Answered (account account' : Owned) (bytes text : List ℕ) (after : 
   pub text_is : x.text ≡ text
   pub owned : Owns account account' x.log
 
--- at most the first calls of a request were made
+-- some first calls of a request were made, or none
 pub record Abandoned (account account' : Owned) (bytes : List ℕ) : Type 0 where
   pub log : List (Call × Answer)
   pub owned : Owns account account' log
   pub begun : (log ≡ [])
       ⊎ ((request : Request) × Spells imap tt bytes request × AsksFirst (work request) log)
 
--- the account was asked, and this text answers the command of this kind and tag
+-- the call was made, and this text answers the command of this kind and tag
 abbrev pub AnswersCall : Owned → Owned → Call → CommandKind → (tag text : List ℕ) → Type 0
 AnswersCall account account' call kind tag text =
     (answer : Answer) × (text ≡ answer_text session_roots kind tag answer)
     × Owns account account' ((call, answer) ∷ [])
 
--- the account was asked or was not
+-- the call was made, or was not
 abbrev pub LeavesCall : Owned → Owned → Call → Type 0
 LeavesCall account account' call = (log : List (Call × Answer)) × Owns account account' log
     × ((log ≡ []) ⊎ ((answer : Answer) × (log ≡ (call, answer) ∷ [])))
@@ -78,12 +79,12 @@ abbrev pub AnswersCommand : Owned → Owned → List ℕ → Command → List �
 AnswersCommand account account' tag command text after = (log : List (Call × Answer))
     × Does (work_of tag command) log text after × Owns account account' log
 
--- at most the first calls for a command with this tag were made
+-- some first calls for a command with this tag were made, or none
 abbrev pub LeavesCommand : Owned → Owned → List ℕ → Command → Type 0
 LeavesCommand account account' tag command = (log : List (Call × Answer))
     × Owns account account' log × AsksFirst (work_of tag command) log
 
--- what came of the bytes of a request: the text that answers them, or the session's end with
+-- the result for the bytes of a request: the text that answers them, or the session's end with
 -- nothing written for them
 abbrev pub Comes : Type 0 → (at : ℕ) → (given waiting : List ℕ) → List (Call × Answer)
     → (text : List ℕ) → Result After SessionEnd → Type 0
@@ -93,7 +94,7 @@ Comes nothing_left at given waiting log text (Ok after) =
 Comes nothing_left at given waiting log text (Err end) =
     Ends imap input_limit nothing_left tt at (given ++ waiting) log [] end
 
--- a request was taken from the feed, and its answer made
+-- a request was taken from the feed and its answer made, or the session ended before that
 pub record TakesRequest (left left' : Option (List ℕ)) (waiting waiting' : List ℕ)
     (taken taken' at at' : ℕ) (account account' : Owned) (text : List ℕ)
     (result : Result After SessionEnd) : Type 0 where
@@ -104,7 +105,7 @@ pub record TakesRequest (left left' : Option (List ℕ)) (waiting waiting' : Lis
   pub owned : Owns account account' log
   pub comes : Comes (IsAtEnd left') at given waiting' log text result
 
--- what was written for the bytes of a request, and how the session ends in it or does not
+-- what was written for the bytes of a request, and the session's end if it ended during the request
 abbrev pub Served : Type 0 → (at : ℕ) → (given waiting : List ℕ) → List (Call × Answer)
     → (text : List ℕ) → Result After SessionEnd → Type 0
 Served nothing_left at given waiting log text (Ok after) =
@@ -113,7 +114,7 @@ Served nothing_left at given waiting log text (Ok after) =
 Served nothing_left at given waiting log text (Err end) =
     Ends imap input_limit nothing_left tt at (given ++ waiting) log text end
 
--- a request was taken from the feed, and its answer written
+-- a request was taken from the feed and its answer written, or the session ended before that
 pub record ServesRequest (left left' written written' : Option (List ℕ))
     (waiting waiting' : List ℕ) (taken taken' at at' : ℕ) (account account' : Owned)
     (result : Result After SessionEnd) : Type 0 where
@@ -126,7 +127,7 @@ pub record ServesRequest (left left' written written' : Option (List ℕ))
   pub appended : Appends written written' text
   pub served : Served (IsAtEnd left') at given waiting' log text result
 
--- what a session does once its greeting is written
+-- what a session does after its greeting is written
 pub record IsServed (left left' written written' : Option (List ℕ)) (account account' : Owned)
     (end : SessionEnd) : Type 0 where
   pub taken : List ℕ
@@ -137,8 +138,8 @@ pub record IsServed (left left' written written' : Option (List ℕ)) (account a
   pub owned : Owns account account' log
   pub worked : IsWorked imap input_limit (IsAtEnd left') taken log (greeting ++ text) end
 
--- the session's end where the feed ends, within a request that begins at this place and of which so
--- many bytes came
+-- the session's end if the feed ends within a request that begins at this offset, after this many
+-- bytes of the request
 abbrev pub end_at : FeedEnd → (at come : ℕ) → SessionEnd
 end_at Fault at come = ReadFault
 end_at Limit at come = InputLimit

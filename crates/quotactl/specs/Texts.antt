@@ -1,5 +1,5 @@
--- The lines that an IMAP session writes: RFC 9208, on the QUOTA and QUOTAROOT responses; the texts
--- after OK, NO, BAD and BYE are this project's own.
+-- The lines that an IMAP session writes. The QUOTA and QUOTAROOT responses are those of RFC 9208.
+-- The texts after OK, NO, BAD and BYE are this project's own.
 use Rattle.std.specs.Prelude.{◌≡◌, ◌≢◌, ℕ, List, [], ◌++◌, codes, Option, None, Some}
 use Rattle.std.specs.List.{flat_map}
 use Rattle.std.specs.Fmt.{decimal}
@@ -16,7 +16,7 @@ use Rattle.quotactl.specs.declared.texts.Kind.TheVariants.{GetQuota, GetQuotaRoo
 abbrev pub crlf : List ℕ
 crlf = codes "\r\n"
 
--- words that answer the command with this tag
+-- the line that answers the command with this tag in these words
 abbrev pub tagged_line : List ℕ → List ℕ → List ℕ
 tagged_line tag words = tag ++ (codes " " ++ (words ++ crlf))
 
@@ -24,14 +24,14 @@ tagged_line tag words = tag ++ (codes " " ++ (words ++ crlf))
 abbrev pub resource : List ℕ → ℕ → ℕ → List ℕ
 resource name usage limit = name ++ (codes " " ++ (decimal usage ++ (codes " " ++ decimal limit)))
 
--- the storage, in units of 1024 octets that are begun
+-- the storage, in units of 1024 octets, rounded up
 abbrev pub storage : ℕ → ℕ → List ℕ
 storage octets limit = resource (codes "STORAGE") (units_of octets) (units_of limit)
 
 abbrev pub message : ℕ → ℕ → List ℕ
 message count limit = resource (codes "MESSAGE") count limit
 
--- each resource that is limited
+-- each resource that has a limit
 abbrev pub resources : (octets count : ℕ) → Option ℕ → Option ℕ → List ℕ
 resources octets count None None = []
 resources octets count (Some limit) None = storage octets limit
@@ -39,17 +39,17 @@ resources octets count None (Some limit) = message count limit
 resources octets count (Some most) (Some limit) =
     storage octets most ++ (codes " " ++ message count limit)
 
--- the row of the root of this name
+-- the QUOTA response for the root of this name
 abbrev pub quota_line : List ℕ → RootRow → List ℕ
 quota_line name row =
     codes "* QUOTA " ++ (printed name ++ (codes " ("
     ++ (resources row.octets row.count row.limits.octets row.limits.count ++ (codes ")" ++ crlf))))
 
--- the row of a root of these
+-- the QUOTA response for one of these roots
 abbrev pub root_line : List RootSpec → RootRow → List ℕ
 root_line roots row = quota_line (name_at roots row.root) row
 
--- a space and the name of a root of these
+-- a space and the name of one of these roots
 abbrev pub root_after_space : List RootSpec → RootRow → List ℕ
 root_after_space roots row = codes " " ++ printed (name_at roots row.root)
 
@@ -58,26 +58,26 @@ abbrev pub quota_root_line : List RootSpec → List ℕ → List RootRow → Lis
 quota_root_line roots mailbox rows =
     codes "* QUOTAROOT " ++ (printed mailbox ++ (flat_map (root_after_space roots) rows ++ crlf))
 
--- a name that no root has
+-- the answer to a command that names a root that does not exist
 abbrev pub no_root_text : List ℕ → List ℕ
 no_root_text tag = tagged_line tag (codes "NO No such quota root")
 
--- the store failed
+-- the answer if the store failed
 abbrev pub unavailable_text : List ℕ → List ℕ
 unavailable_text tag = tagged_line tag (codes "NO [UNAVAILABLE] Store unavailable")
 
--- the account's history is full
+-- the answer if the account's history is full
 abbrev pub journal_full_text : List ℕ → List ℕ
 journal_full_text tag = tagged_line tag (codes "NO [LIMIT] Journal full")
 
--- a command that makes a call, with what of it the answer tells
+-- a command that makes a call, with the part of it that the answer repeats
 pub data CommandKind : Type 0 where
   get_quota : CommandKind
   get_quota_root : (mailbox : List ℕ) → CommandKind
   set_quota : CommandKind
 
--- What answers each command, by the answer to its call, where the account has these roots.
--- No call of a command gets a reply of another kind: such a reply is told as a failed store.
+-- The text that answers each command, given the answer to its call, if the account has these roots.
+-- A command's call gets no reply of another kind; such a reply is written as a failed store.
 abbrev pub get_quota_text : List RootSpec → (tag : List ℕ) → Answer → List ℕ
 get_quota_text roots tag (replied NoRoot) = no_root_text tag
 get_quota_text roots tag (replied (Quota row)) =
@@ -104,7 +104,7 @@ answer_text roots get_quota tag answer = get_quota_text roots tag answer
 answer_text roots (get_quota_root mailbox) tag answer = get_quota_root_text roots mailbox tag answer
 answer_text roots set_quota tag answer = set_quota_text roots tag answer
 
--- the kind that the code names so
+-- the kind of command that the code's `Kind` stands for
 abbrev pub kind_of : Kind → CommandKind
 kind_of GetQuota = get_quota
 kind_of (GetQuotaRoot mailbox) = get_quota_root mailbox.now
@@ -114,17 +114,17 @@ kind_of SetQuota = set_quota
 abbrev pub EndsTagged : (tag text : List ℕ) → Type 0
 EndsTagged tag text = (front words : List ℕ) × (text ≡ front ++ tagged_line tag words)
 
--- Whatever its call is answered, a command is answered by a text.
+-- Whatever the answer to its call, a command is answered with a text that is not empty.
 abbrev pub AnswersHaveTexts : Type 0
 AnswersHaveTexts = (roots : List RootSpec) (kind : CommandKind) (tag : List ℕ) (answer : Answer)
     → answer_text roots kind tag answer ≢ []
 
--- Whatever its call is answered, the last line says so to the command with this tag.
+-- Whatever the answer to its call, the text's last line answers the command with this tag.
 abbrev pub AnswersEndTagged : Type 0
 AnswersEndTagged = (roots : List RootSpec) (kind : CommandKind) (tag : List ℕ) (answer : Answer)
     → EndsTagged tag (answer_text roots kind tag answer)
 
--- a mailbox of more than 255 bytes
+-- the answer if a mailbox's name has more than 255 bytes
 abbrev pub name_too_long_text : List ℕ → List ℕ
 name_too_long_text tag = tagged_line tag (codes "NO Name too long")
 

@@ -5,19 +5,19 @@ ghost use Rattle.quotactl.specs.AskedLimits.{is_for, number_for, repeats, has_un
 use imap_grammar::AskedLimit;
 use quota_units::{Limits, Resource, limit_of_count, limit_of_units};
 
-/// Why the limits that are asked for are not set.
+/// Why the limits that SETQUOTA asks for are not set.
 #[derive(Clone, Copy, Debug, PartialEq, Eq)]
 pub enum Refusal {
-    /// One is for no resource of this service.
+    /// A limit is for a resource that this service does not have.
     Unknown,
-    /// Two are for one resource.
+    /// Two limits are for the same resource.
     Repeated,
     /// A number is 0 or above 8796093022207.
     Unsupported,
 }
 
 impl Refusal {
-    /// What a session says of it.
+    /// The words, after the command's tag, with which a session refuses.
     pub fn words(self) -> &'static [u8]
         ensures { result.now ≡ refusal_words self }
     {
@@ -29,7 +29,7 @@ impl Refusal {
     }
 }
 
-/// Whether a limit is asked for this resource.
+/// Whether this limit is for this resource.
 fn is_for(resource: Resource, asked: &AskedLimit) -> bool
     ensures { result ≡ is_for resource asked.now }
 {
@@ -40,7 +40,7 @@ fn is_for(resource: Resource, asked: &AskedLimit) -> bool
     }
 }
 
-/// The number that is asked for a resource, in its first place.
+/// The first number that is asked for a resource.
 fn number_for(resource: Resource, asked: &[AskedLimit]) -> Option<u64>
     ensures { result ≡ number_for resource asked.now }
 {
@@ -50,7 +50,7 @@ fn number_for(resource: Resource, asked: &[AskedLimit]) -> Option<u64>
         .map(|limit| limit.limit)
 }
 
-/// Whether this resource stands twice.
+/// Whether this resource occurs twice.
 #[tactic(auto, using(crate::proofs::Repeats::counted_more, crate::proofs::Repeats::counted_same, crate::proofs::Repeats::counted_all))]
 fn repeats(resource: Resource, asked: &[AskedLimit]) -> bool
     ensures { result ≡ repeats resource asked.now }
@@ -64,7 +64,7 @@ fn repeats(resource: Resource, asked: &[AskedLimit]) -> bool
     count > 1
 }
 
-/// Limits of so many units of storage and so many messages, each where it is given.
+/// Limits of this many 1024-octet units of storage and this many messages, each if it is given.
 fn limits_set(units: Option<u64>, messages: Option<u64>) -> Result<Limits, Refusal>
     ensures { result ≡ limits_set units messages }
 {
@@ -88,14 +88,14 @@ fn limits_set(units: Option<u64>, messages: Option<u64>) -> Result<Limits, Refus
     }
 }
 
-/// Whether a limit is asked for no resource of this service.
+/// Whether a limit is asked for a resource that this service does not have.
 fn has_unknown(asked: &[AskedLimit]) -> bool
     ensures { result ≡ has_unknown asked.now }
 {
     asked.iter().any(|limit| limit.resource.is_none())
 }
 
-/// Whether a resource stands twice.
+/// Whether a resource occurs twice.
 fn has_repeats(asked: &[AskedLimit]) -> bool
     ensures { result ≡ has_repeats asked.now }
 {
@@ -106,7 +106,7 @@ fn has_repeats(asked: &[AskedLimit]) -> bool
 ///
 /// # Errors
 ///
-/// The refusals are looked for in the whole list, one after the other: `Unknown`, `Repeated`,
+/// The whole list is searched for each refusal in turn: `Unknown`, then `Repeated`, then
 /// `Unsupported`.
 pub fn limits_of(asked: &[AskedLimit]) -> Result<Limits, Refusal>
     ensures { result ≡ limits_asked asked.now }

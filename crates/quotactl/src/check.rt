@@ -1,4 +1,4 @@
-// The command `check`: what a ledger holds.
+// The command `check`, which says what a ledger holds.
 ghost use Rattle.std.specs.Prelude.{◌≡◌, ◌≢◌, ◌++◌, codes, OnOk, IfOk, IfErr};
 ghost use Rattle.quota_units.specs.Causes.{Rose};
 ghost use Rattle.maildirsize.specs.Reading.{SumsUp, fault_of};
@@ -11,7 +11,7 @@ use quota_units::{Failed, Limits};
 use std::alloc::{AllocError, Global};
 use wire_io::{Feed, FeedEnd, Sink, Source, send};
 
-/// The most bytes that are read.
+/// The most bytes that are read of a ledger.
 const MAX_CHECKED: usize = 65536;
 
 /// Why a ledger's bytes were not read.
@@ -19,11 +19,11 @@ const MAX_CHECKED: usize = 65536;
 enum Unread {
     /// The source failed.
     Fault,
-    /// There was no memory.
+    /// Memory ran out.
     NoMemory,
 }
 
-/// All bytes of the source, or so many as are read.
+/// All bytes of the source, or its first `MAX_CHECKED` if it has more.
 fn ledger_bytes<S: Source>(alloc: Global, source: &mut S) -> Result<Vec<u8>, Unread>
     ensures ok { IfOk result
         (λ bytes. TakesLedger (S.left source.old) (S.left source.new) bytes.items) }
@@ -44,7 +44,7 @@ fn ledger_bytes<S: Source>(alloc: Global, source: &mut S) -> Result<Vec<u8>, Unr
     }
 }
 
-/// Words, and a value in them, on a line.
+/// Appends a line of these words and then this value.
 fn push_said(out: &mut Vec<u8>, words: &[u8], value: &[u8]) -> Result<(), AllocError>
     ensures { OnOk result (out.new.items ≡ out.old.items ++ said words.now value.now) }
 {
@@ -53,14 +53,14 @@ fn push_said(out: &mut Vec<u8>, words: &[u8], value: &[u8]) -> Result<(), AllocE
     out.extend_from_slice(b"\n")
 }
 
-/// Words, and a number in them, on a line.
+/// Appends a line of these words and then this number.
 fn push_number<I: Integer>(out: &mut Vec<u8>, words: &[u8], number: I) -> Result<(), AllocError>
     ensures { OnOk result (out.new.items ≡ out.old.items ++ said words.now (I.text number)) }
 {
     push_said(out, words, Buffer::new().format(number).as_bytes())
 }
 
-/// The limits of a ledger's definition, as they are written.
+/// Appends the line of a ledger's definition, that is its limits as a ledger writes them.
 fn push_definition(out: &mut Vec<u8>, limits: &Limits) -> Result<(), AllocError>
     ensures { OnOk result (out.new.items ≡ out.old.items
         ++ said (codes "definition ") (written_definition limits.now)) }
@@ -84,7 +84,7 @@ fn count_of(ledger: &LedgerText) -> i128
     ledger.count
 }
 
-/// The sums of a ledger.
+/// Appends the lines of a ledger's two sums.
 fn push_sums(out: &mut Vec<u8>, ledger: &LedgerText) -> Result<(), AllocError>
     ensures { OnOk result
         (out.new.items ≡ out.old.items ++ sums_text ledger.now.octets ledger.now.count) }
@@ -93,7 +93,7 @@ fn push_sums(out: &mut Vec<u8>, ledger: &LedgerText) -> Result<(), AllocError>
     push_number(out, b"messages ", count_of(ledger))
 }
 
-/// What a ledger holds, line by line.
+/// Appends what a ledger holds, line by line.
 fn push_values(out: &mut Vec<u8>, ledger: &LedgerText) -> Result<(), AllocError>
     ensures { OnOk result (out.new.items ≡ out.old.items ++ values_text ledger.now) }
 {
@@ -102,7 +102,7 @@ fn push_values(out: &mut Vec<u8>, ledger: &LedgerText) -> Result<(), AllocError>
     push_sums(out, ledger)
 }
 
-/// What is wrong with a ledger.
+/// Appends the line that says what is wrong with a ledger.
 fn push_fault(out: &mut Vec<u8>, fault: LedgerFault) -> Result<(), AllocError>
     ensures { OnOk result (out.new.items ≡ out.old.items ++ fault_text fault) }
 {
@@ -114,7 +114,7 @@ fn push_fault(out: &mut Vec<u8>, fault: LedgerFault) -> Result<(), AllocError>
     }
 }
 
-/// What these bytes are answered with, and the exit status.
+/// What `check` writes for these bytes, and the exit status.
 fn told(alloc: Global, bytes: &[u8]) -> Result<(Vec<u8>, u8), AllocError>
     ensures { IfOk result (λ x. Tells bytes.now x.0.items x.1) }
 {
@@ -131,8 +131,11 @@ fn told(alloc: Global, bytes: &[u8]) -> Result<(Vec<u8>, u8), AllocError>
     }
 }
 
-/// Reads a ledger from the source, to its end or 65536 bytes of it, and writes what it holds, or
-/// what is wrong with it. Gives the exit status.
+/// Reads a ledger from the source, to the source's end or for 65536 bytes, and writes what the
+/// ledger holds or what is wrong with it.
+///
+/// Returns the exit status: 0 if the ledger can be read, 3 if something is wrong with it, 4 if a
+/// read failed, 5 if a write failed, 6 if memory ran out.
 pub fn check<S: Source, O: Sink>(alloc: Global, source: &mut S, sink: &mut O) -> u8
     ensures checks { ChecksLedger (S.left source.old) (S.left source.new) (O.written sink.old)
         (O.written sink.new) result }

@@ -1,4 +1,4 @@
-// The program over its words, its source and its sink.
+// The program over its arguments, its source and its sink.
 ghost use Rattle.std.specs.Prelude.{◌≡◌, ◌≢◌, ◌<◌, ◌≤◌, ◌↔◌, ◌++◌, ℕ, List, take, map, IfSome};
 ghost use Rattle.std.specs.String.{string_bytes};
 ghost use Rattle.std.specs.Io.KnownBytes.{Appends};
@@ -16,11 +16,11 @@ use quota_units::{Failed, Limits, NoMemory};
 use std::alloc::Global;
 use wire_io::{SessionEnd, Sink, Source, send};
 
-/// What answers words that are of no form.
+/// What the program writes for unrecognised arguments.
 const USAGE: &[u8] =
     b"usage: quotactl session N | imap [ACCOUNT] | jmap | policy | recalc ACCOUNT | check | workload N\n";
 
-/// The exit status where there is no memory.
+/// The exit status if memory runs out.
 const NO_MEMORY: u8 = 6;
 
 /// The exit status of the program after a session.
@@ -39,7 +39,8 @@ fn status(end: SessionEnd) -> u8
     }
 }
 
-/// Serves a session of an account with so many units of storage, and gives the exit status.
+/// Serves a session of an account with this many 1024-octet units of storage, and returns the exit
+/// status.
 fn run<S: Source, O: Sink>(alloc: Global, units: u64, source: &mut S, sink: &mut O) -> u8
     requires some { 0 < units }
     requires bounded { units ≤ 8796093022207 }
@@ -59,30 +60,31 @@ fn run<S: Source, O: Sink>(alloc: Global, units: u64, source: &mut S, sink: &mut
     }
 }
 
-/// Does what the words of `quotactl` say, over a source and a sink, and gives the exit status.
+/// Runs `quotactl` with these arguments, over a source and a sink, and returns the exit status.
 ///
-/// The words are those after the program's name. `session N`, with N from 1 to 8796093022207 in
-/// decimal digits with no leading zero, is a session of IMAP for the owner of an account with N
-/// units of storage of 1024 octets. `check` says what a ledger holds. Any other words are answered
-/// with the usage line and status 1.
+/// `words` are the arguments after the program's name. `session N` serves a session of IMAP for the
+/// owner of an account with N units of storage of 1024 octets; N is from 1 to 8796093022207, in
+/// decimal digits with no leading zero. `check` says what a ledger holds. For any other arguments
+/// the program writes the usage line, and the status is 1, or 5 if a write fails.
 pub fn control<S: Source, O: Sink>(
     alloc: Global,
     words: &[String],
     source: &mut S,
     sink: &mut O,
 ) -> u8
-    // What the words say is done, or they are of no form and the usage line says so.
+    // The program does what the arguments say. If they are unrecognised, it writes the usage line.
     ensures controls { Controls (map string_bytes words.now) (S.left source.old) (S.left source.new)
         (O.written sink.old) (O.written sink.new) result }
 
-    // A fault is told where it came, and only there.
+    // Status 4 means that a read failed, and status 5 that a write failed. No other failure is
+    // counted.
     ensures read_fault { result ≡ 4 → Rose (S.faults source.old) (S.faults source.new) }
     ensures read_kept { result ≢ 4 → S.faults source.new ≡ S.faults source.old }
     ensures write_fault { result ≡ 5 → Rose (O.faults sink.old) (O.faults sink.new) }
     ensures write_kept { result ≢ 5 → O.faults sink.new ≡ O.faults sink.old }
 
-    // Where nothing failed, words and input decide the status and all that is written, but for want
-    // of memory.
+    // If nothing failed and memory did not run out, the arguments and the input decide the status
+    // and all that is written.
     ensures output { (n : ℕ) → IsForm (map string_bytes words.now) (Form.Session n)
         → IfSome (S.left source.old) (λ input. (Rose (S.faults source.old) (S.faults source.new)
         → ⊥) → (Rose (O.faults sink.old) (O.faults sink.new) → ⊥) → result ≢ 6

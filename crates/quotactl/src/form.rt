@@ -1,4 +1,4 @@
-// The words of the program, after its name.
+// The arguments of the program, after its name.
 ghost use Rattle.std.specs.Prelude.{◌≡◌, ◌<◌, ◌≤◌, ◌↔◌, ℕ, [], ◌∷◌, IsTrue, map, codes, IfSome, IfNone};
 ghost use Rattle.std.specs.String.{string_bytes};
 ghost use Rattle.std.specs.Fmt.{decimal};
@@ -6,17 +6,17 @@ ghost use Rattle.quotactl.specs.Words.{IsSessionForm, IsForm, IsNoForm};
 
 use quota_units::numeral_in;
 
-/// What the words say is to be done.
+/// What the arguments ask for.
 #[derive(Clone, Copy, Debug, PartialEq, Eq)]
 pub enum Form {
-    /// A session for the owner of an account with so many units of storage.
+    /// A session for the owner of an account with this many 1024-octet units of storage.
     Session { units: u64 },
-    /// To say what a ledger holds.
+    /// A statement of what a ledger holds.
     Check,
 }
 
-/// The units of storage that a word names: 1 to 8796093022207, in decimal digits with no leading
-/// zero.
+/// The units of storage that an argument names: 1 to 8796093022207, in decimal digits with no
+/// leading zero.
 fn units_in(word: &[u8]) -> Option<u64>
     ensures some { IfSome result (λ n. (word.now ≡ decimal n) × (0 < n) × (n ≤ 8796093022207)) }
     ensures none { IfNone result ((n : ℕ) → word.now ≡ decimal n → 0 < n → n ≤ 8796093022207 → ⊥) }
@@ -27,21 +27,21 @@ fn units_in(word: &[u8]) -> Option<u64>
     }
 }
 
-/// Whether the word is `session`.
+/// Whether the argument is `session`.
 fn is_session(word: &[u8]) -> bool
     ensures { IsTrue result ↔ (word.now ≡ codes "session") }
 {
     word == b"session".as_slice()
 }
 
-/// Whether the word is `check`.
+/// Whether the argument is `check`.
 fn is_check(word: &[u8]) -> bool
     ensures { IsTrue result ↔ (word.now ≡ codes "check") }
 {
     word == b"check".as_slice()
 }
 
-/// The units of storage, where the words are `session N`.
+/// The units of storage, if the arguments are `session N`.
 fn session_units(words: &[String]) -> Option<u64>
     ensures some { IfSome result (λ n. IsSessionForm (map string_bytes words.now) n) }
     ensures none { IfNone result ((n : ℕ) → IsSessionForm (map string_bytes words.now) n → ⊥) }
@@ -55,7 +55,7 @@ fn session_units(words: &[String]) -> Option<u64>
     }
 }
 
-/// Whether the words are `check`.
+/// Whether the arguments are `check`.
 fn are_check(words: &[String]) -> bool
     ensures { IsTrue result ↔ (map string_bytes words.now ≡ codes "check" ∷ []) }
 {
@@ -65,7 +65,7 @@ fn are_check(words: &[String]) -> bool
     }
 }
 
-/// What the words say; `None` where they are of no form.
+/// What the arguments ask for; `None` if they are unrecognised.
 pub fn form_of(words: &[String]) -> Option<Form>
     ensures some { IfSome result (λ form. IsForm (map string_bytes words.now) form) }
     ensures none { IfNone result (IsNoForm (map string_bytes words.now)) }

@@ -17,10 +17,11 @@ use std::process::ExitCode;
 use std::rt::Env;
 use wire_io::{StdSink, StdSource};
 
-/// The exit status where there is no memory for the words.
+/// The exit status if memory runs out for the arguments.
 const NO_MEMORY: u8 = 6;
 
-/// The words after the program's name. Words that are no text are none, which is no form.
+/// The arguments after the program's name. If they are not text, the list is empty, and an empty
+/// list is unrecognised.
 fn words<R: Env + AllocGlobal>(rt: &R) -> io::Result<Vec<String>> {
     match env::args(rt) {
         Ok(mut args) => {

@@ -1,4 +1,5 @@
-// The account of a session: one over a keeper in memory that never fails, asked by its owner alone.
+// The account of a session. Its keeper is in memory and never fails, and its owner is its only
+// caller.
 ghost use Rattle.std.specs.Prelude.{◌≡◌, ◌≢◌, [], IfOk};
 ghost use Rattle.quota_roots.specs.RootLists.{name_at};
 ghost use Rattle.account_core.specs.Logs.{Serves};
@@ -14,8 +15,8 @@ use quota_units::{Limits, NoMemory};
 use std::alloc::Global;
 use std::marker::Model;
 
-/// The account of a session, with its one owner. Contracts see where its history begins, that is
-/// what it was opened with, and the history.
+/// The account of a session, with its one owner. Contracts see its history and where that begins,
+/// that is what the account was opened with.
 #[derive(Drop)]
 pub struct Owner {
     state: AccountState<FixedKeeper>,
@@ -32,11 +33,11 @@ impl Model for Owner {
 }
 
 impl Owner {
-    /// The account of a table of one account with these limits, over a keeper without files.
+    /// Opens the account of a table of one account with these limits, over a keeper without files.
     ///
     /// # Errors
     ///
-    /// There was no memory.
+    /// `NoMemory` if memory runs out.
     pub fn open(alloc: Global, limits: Limits) -> Result<Owner, NoMemory>
         ensures origin { IfOk result (λ owner. owner.origin ≡ plain_origin limits) }
         ensures fresh { IfOk result (λ owner. owner.history ≡ []) }
@@ -53,27 +54,29 @@ impl Owner {
         }
     }
 
-    /// The account has the one root of the empty name, and what it was opened with is told.
+    /// Shows that the account has one root, of the empty name, and that its opening account is
+    /// known.
     pub fn show_opening(&self)
         ensures { IsPlainAccount self.now }
     {
         let _ = &self.state;
     }
 
-    /// The name of the root of this number, which is empty; the number of no root has none.
+    /// The name of the root with this number. It is empty, both for the one root and for a number
+    /// that no root has.
     pub fn root_name(&self, root: u32) -> &[u8]
         ensures { result.now ≡ name_at session_roots root }
     {
         b""
     }
 
-    /// Answers a call of the account's owner, who is caller 0: one of `Quota`, `SetLimits` and
-    /// `Roots`.
+    /// Answers a call of the account's owner, who is caller 0. The call is a `Quota`, a `SetLimits`
+    /// or a `Roots`.
     ///
     /// # Errors
     ///
-    /// `JournalFull` where the history holds 65536 entries, and `NoMemory`; both leave the history
-    /// as it was.
+    /// `JournalFull` if the history holds 65536 entries, and `NoMemory` if memory runs out. Both
+    /// leave the history as it was.
     pub fn serve(&mut self, alloc: Global, call: Call) -> Result<Reply, StepError>
         requires { IsAsked call }
         ensures plain { IsPlainAccount self.old }

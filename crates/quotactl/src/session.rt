@@ -25,10 +25,10 @@ use wire_io::{After, Feed, FeedEnd, LineEnd, SessionEnd, Sink, Source, send};
 /// The most bytes of a command's text.
 const MAX_TEXT: usize = 16384;
 
-/// The most bytes of a session.
+/// The most bytes that a session takes.
 const INPUT_LIMIT: u64 = 1073741824;
 
-/// Asks the account, and appends what answers the command of this kind and tag.
+/// Makes the call, and appends the answer to the command of this kind and tag.
 fn answer_call(
     alloc: Global,
     account: &mut Owner,
@@ -54,7 +54,7 @@ fn answer_call(
     }
 }
 
-/// Says these words, with no call made.
+/// Appends these words as the answer, and makes no call.
 fn answer_words(tag: &[u8], words: &[u8], text: &mut Vec<u8>) -> Result<(), NoMemory>
     requires { text.old.items ≡ [] }
     ensures { OnOk result (text.new.items ≡ tagged_line tag.now words.now) }
@@ -65,7 +65,7 @@ fn answer_words(tag: &[u8], words: &[u8], text: &mut Vec<u8>) -> Result<(), NoMe
     }
 }
 
-/// Makes what answers GETQUOTA.
+/// Makes the answer to GETQUOTA.
 fn answer_get_quota(
     alloc: Global,
     account: &mut Owner,
@@ -92,7 +92,7 @@ fn answer_get_quota(
     }
 }
 
-/// Makes what answers GETQUOTAROOT.
+/// Makes the answer to GETQUOTAROOT.
 fn answer_get_quota_root(
     alloc: Global,
     account: &mut Owner,
@@ -121,7 +121,7 @@ fn answer_get_quota_root(
     }
 }
 
-/// Makes what answers SETQUOTA.
+/// Makes the answer to SETQUOTA.
 fn answer_set_quota(
     alloc: Global,
     account: &mut Owner,
@@ -152,8 +152,8 @@ fn answer_set_quota(
     }
 }
 
-/// Makes what answers a line, with the calls that it asks for, and says what the session does after
-/// it.
+/// Makes the calls that a line asks for and the answer to the line, and returns what the session
+/// does after it.
 fn answer_line(
     alloc: Global,
     account: &mut Owner,
@@ -186,7 +186,7 @@ fn answer_line(
     }
 }
 
-/// Makes what answers a command with this tag.
+/// Makes the answer to a command with this tag, and returns what the session does after it.
 fn answer_command(
     alloc: Global,
     account: &mut Owner,
@@ -223,8 +223,8 @@ fn answer_command(
     }
 }
 
-/// The session's end where the feed ends, within a request that begins at `at` and of which so many
-/// bytes came.
+/// The session's end if the feed ends within a request that begins at `at`, after `come` bytes of
+/// the request.
 fn end_of(end: FeedEnd, at: u64, come: usize) -> SessionEnd
     ensures { result ≡ end_at end at come }
 {
@@ -239,7 +239,8 @@ fn end_of(end: FeedEnd, at: u64, come: usize) -> SessionEnd
     }
 }
 
-/// Takes one request from the feed and makes what answers it, or says how the session ends before.
+/// Takes one request from the feed and makes the answer to it, or returns the session's end if the
+/// session ends before that.
 fn take_request<S: Source>(
     alloc: Global,
     account: &mut Owner,
@@ -276,7 +277,7 @@ fn take_request<S: Source>(
     }
 }
 
-/// Serves one request, or says how the session ends in it.
+/// Serves one request, or returns the session's end if the session ends during it.
 fn serve_request<S: Source, O: Sink>(
     alloc: Global,
     account: &mut Owner,
@@ -314,7 +315,7 @@ fn serve_request<S: Source, O: Sink>(
     }
 }
 
-/// Serves request after request to the session's end.
+/// Serves one request after another to the session's end.
 fn serve_all<S: Source, O: Sink>(
     alloc: Global,
     account: &mut Owner,
@@ -348,23 +349,24 @@ fn serve_all<S: Source, O: Sink>(
     }
 }
 
-/// Serves a session to its end: IMAP for the account's owner, over the bytes of the source, into
+/// Serves a session of IMAP for the account's owner to its end. It reads the source and writes to
 /// the sink.
 ///
-/// At most 1073741824 bytes are taken.
+/// It takes at most 1073741824 bytes from the source.
 pub fn run_session<S: Source, O: Sink>(
     alloc: Global,
     account: &mut Owner,
     source: &mut S,
     sink: &mut O,
 ) -> SessionEnd
-    // What is written answers what is read, each reply being the account machine's at its call's
+    // What is written answers what is read. Each reply is the account machine's, at its call's
     // place in the one history.
     ensures session { IsSession (S.left source.old) (S.left source.new) (O.written sink.old)
         (O.written sink.new) account.old account.new result }
     ensures plain { IsPlainAccount account.old }
 
-    // A fault is told where it came, and only there.
+    // The end is `ReadFault` if a read failed, and `WriteFault` if a write failed. No other failure
+    // is counted.
     ensures read_fault { result ≡ SessionEnd.ReadFault
         → Rose (S.faults source.old) (S.faults source.new) }
     ensures read_kept { result ≢ SessionEnd.ReadFault → S.faults source.new ≡ S.faults source.old }
@@ -372,7 +374,7 @@ pub fn run_session<S: Source, O: Sink>(
         → Rose (O.faults sink.old) (O.faults sink.new) }
     ensures write_kept { result ≢ SessionEnd.WriteFault → O.faults sink.new ≡ O.faults sink.old }
 
-    // The input decides an end, and if nothing failed, the session ends so, unless memory ran out.
+    // The input decides an end. The session has that end unless something failed or memory ran out.
     ensures decided { IfSome (S.left source.old) (λ input.
         EndsAsDecided imap input_limit input (Rose (S.faults source.old) (S.faults source.new)
         ⊎ Rose (O.faults sink.old) (O.faults sink.new)) result) }

@@ -7,8 +7,8 @@ use wire_io::{MemSink, MemSource};
 const USAGE: &[u8] =
     b"usage: quotactl session N | imap [ACCOUNT] | jmap | policy | recalc ACCOUNT | check | workload N\n";
 
-/// A run of the program: its words and input, the reads and writes that fail, and the room of the
-/// sink.
+/// A run of the program: its arguments and input, the reads and writes that fail, and the room of
+/// the sink.
 #[derive(Clone, Copy)]
 struct Run<'a> {
     words: &'a [&'a str],
@@ -158,7 +158,7 @@ static SESSIONS: [Row; 30] = [
         b"* PREAUTH quotad ready\r\na NO No such quota root\r\n",
         0,
     ),
-    // A refusal leaves the limits.
+    // A refusal leaves the limits as they were.
     (
         b"a SETQUOTA \"\" (STORAGE 0)\nb SETQUOTA x ()\nc GETQUOTA \"\"\n",
         b"* PREAUTH quotad ready\r\na NO Limit not supported\r\nb NO No such quota root\r\n* QUOTA \"\" (STORAGE 0 512)\r\nc OK GETQUOTA completed\r\n",
@@ -251,7 +251,7 @@ static LEDGERS: [Row; 16] = [
     (b"1S\n1 1\nx", b"torn at 7\n", 3),
 ];
 
-/// Words that are of no form, or whose units are out of range.
+/// Unrecognised arguments, among them units that are out of range.
 static NO_FORMS: [&[&str]; 15] = [
     &["check", "5"],
     &["Check"],
@@ -270,7 +270,7 @@ static NO_FORMS: [&[&str]; 15] = [
     &[],
 ];
 
-/// A text of parts, each so many times.
+/// A text in parts, each with the number of times that it occurs.
 type Parts = &'static [(&'static [u8], usize)];
 
 /// An input, what is written for it, and the status.
@@ -346,7 +346,8 @@ static LONG_SESSIONS: [LongRow; 17] = [
         &[(b"* PREAUTH quotad ready\r\na NO Name too long\r\n", 1)],
         0,
     ),
-    // The history has no entry of them, nor of limits that are refused, and is full at 65536 calls.
+    // Names that are too long, and limits that are refused, make no entry in the history. It is
+    // full at 65536 entries.
     (
         &[
             (b"a GETQUOTA \"\"\n", 65534),
@@ -488,8 +489,8 @@ fn limits_of_length_are_kept(rt: HostRuntime) -> Result<(), Fail> {
 fn faults_end_a_run_at_every_place(rt: HostRuntime) -> Result<(), Fail> {
     let session: &[u8] = b"a1 GETQUOTA \"\"\r\na2 LOGOUT\r\n";
     let ledger: &[u8] = b"1S\n1 1\n";
-    // Words and an input; its reads, and what is written if one of the first 16 fails or a later
-    // one; its writes.
+    // Arguments and an input; the number of reads; how many bytes are written if one of the first
+    // 16 reads fails, and if a later one does; the number of writes.
     let table: [(&[&str], &[u8], u64, usize, usize, u64); 2] = [
         (&["session", "512"], session, 27, 24, 78, 124),
         (&["check"], ledger, 7, 0, 0, 42),

@@ -1,4 +1,4 @@
-// The texts that answer requests, each appended whole.
+// The texts that answer requests. Each is appended whole unless memory runs out.
 ghost use Rattle.std.specs.Prelude.{◌≡◌, ◌++◌, OnOk};
 ghost use Rattle.std.specs.Fmt.{decimal};
 ghost use Rattle.std.specs.List.{flat_map};
@@ -19,26 +19,26 @@ use std::alloc::AllocError;
 /// What a session writes first.
 pub const GREETING: &[u8] = b"* PREAUTH quotad ready\r\n";
 
-/// What answers so many bytes without a line's end.
+/// The answer to 16384 bytes without a line feed.
 pub const TOO_LONG: &[u8] = b"* BYE Command too long\r\n";
 
-/// What answers a line that is no command that is built.
+/// The answer to a line that is not an implemented command.
 pub const NOT_BUILT: &[u8] = b"* BAD Not built yet\r\n";
 
-/// What answers a command that names no root.
+/// The answer, after the tag, to a command that names a root that does not exist.
 pub const NO_ROOT: &[u8] = b"NO No such quota root";
 
-/// What answers GETQUOTAROOT of a mailbox of more than 255 bytes.
+/// The answer, after the tag, to GETQUOTAROOT of a mailbox whose name has more than 255 bytes.
 pub const NAME_TOO_LONG: &[u8] = b"NO Name too long";
 
-/// What answers a command whose call the store failed. The store of a session's account never
-/// fails.
+/// The answer, after the tag, to a command if the store failed during its call. The store of a
+/// session's account never fails.
 pub const UNAVAILABLE: &[u8] = b"NO [UNAVAILABLE] Store unavailable";
 
-/// What answers a command where the account's history is full.
+/// The answer, after the tag, to a command if the account's history is full.
 pub const JOURNAL_FULL: &[u8] = b"NO [LIMIT] Journal full";
 
-/// A command that makes a call, with what of it the answer tells.
+/// A command that makes a call, with the part of it that the answer repeats.
 #[derive(Clone, Copy)]
 pub enum Kind<'a> {
     GetQuota,
@@ -53,7 +53,7 @@ fn push_number(out: &mut Vec<u8>, number: u64) -> Result<(), AllocError>
     out.extend_from_slice(Buffer::new().format(number).as_bytes())
 }
 
-/// Words that answer the command with this tag.
+/// Appends the line that answers the command with this tag in these words.
 pub fn push_tagged(out: &mut Vec<u8>, tag: &[u8], words: &[u8]) -> Result<(), AllocError>
     ensures { OnOk result (out.new.items ≡ out.old.items ++ tagged_line tag.now words.now) }
 {
@@ -63,7 +63,7 @@ pub fn push_tagged(out: &mut Vec<u8>, tag: &[u8], words: &[u8]) -> Result<(), Al
     out.extend_from_slice(b"\r\n")
 }
 
-/// A resource's name, usage and limit.
+/// Appends a resource's name, usage and limit.
 fn push_resource(out: &mut Vec<u8>, name: &[u8], usage: u64, limit: u64) -> Result<(), AllocError>
     ensures { OnOk result (out.new.items ≡ out.old.items ++ resource name.now usage limit) }
 {
@@ -86,7 +86,7 @@ fn push_message(out: &mut Vec<u8>, count: u64, limit: u64) -> Result<(), AllocEr
     push_resource(out, b"MESSAGE", count, limit)
 }
 
-/// Each resource that is limited.
+/// Appends each resource that has a limit.
 fn push_resources(out: &mut Vec<u8>, row: &RootRow) -> Result<(), AllocError>
     ensures { OnOk result (out.new.items ≡ out.old.items
         ++ resources row.now.octets row.now.count row.now.limits.octets row.now.limits.count) }
@@ -103,7 +103,7 @@ fn push_resources(out: &mut Vec<u8>, row: &RootRow) -> Result<(), AllocError>
     }
 }
 
-/// The untagged line of the root of this name.
+/// Appends the untagged line of the root of this name.
 fn push_quota_line(out: &mut Vec<u8>, name: &[u8], row: &RootRow) -> Result<(), AllocError>
     ensures { OnOk result (out.new.items ≡ out.old.items ++ quota_line name.now row.now) }
 {
@@ -114,14 +114,14 @@ fn push_quota_line(out: &mut Vec<u8>, name: &[u8], row: &RootRow) -> Result<(), 
     out.extend_from_slice(b")\r\n")
 }
 
-/// The untagged line of a root of the account.
+/// Appends the untagged line of a root of the account.
 fn push_root_line(out: &mut Vec<u8>, account: &Owner, row: &RootRow) -> Result<(), AllocError>
     ensures { OnOk result (out.new.items ≡ out.old.items ++ root_line session_roots row.now) }
 {
     push_quota_line(out, account.root_name(row.root), row)
 }
 
-/// A space and the name of a root of the account.
+/// Appends a space and the name of a root of the account.
 fn push_root_after_space(
     out: &mut Vec<u8>,
     account: &Owner,
@@ -134,7 +134,7 @@ fn push_root_after_space(
     push_astring(out, account.root_name(row.root))
 }
 
-/// The untagged lines of these roots.
+/// Appends the untagged lines of these roots.
 #[tactic(auto, using(crate::proofs::Rows::rows_none, crate::proofs::Rows::rows_more, crate::proofs::Rows::rows_all))]
 fn push_root_lines(out: &mut Vec<u8>, account: &Owner, rows: &[RootRow]) -> Result<(), AllocError>
     ensures { OnOk result
@@ -146,7 +146,7 @@ fn push_root_lines(out: &mut Vec<u8>, account: &Owner, rows: &[RootRow]) -> Resu
     Ok(())
 }
 
-/// The names of these roots, each after a space.
+/// Appends the names of these roots, each after a space.
 #[tactic(auto, using(crate::proofs::Rows::rows_none, crate::proofs::Rows::rows_more, crate::proofs::Rows::rows_all))]
 fn push_root_names(out: &mut Vec<u8>, account: &Owner, rows: &[RootRow]) -> Result<(), AllocError>
     ensures { OnOk result
@@ -158,7 +158,7 @@ fn push_root_names(out: &mut Vec<u8>, account: &Owner, rows: &[RootRow]) -> Resu
     Ok(())
 }
 
-/// The untagged line of a mailbox and the roots that govern it.
+/// Appends the untagged line of a mailbox and the roots that govern it.
 fn push_quota_root_line(
     out: &mut Vec<u8>,
     account: &Owner,
@@ -174,7 +174,7 @@ fn push_quota_root_line(
     out.extend_from_slice(b"\r\n")
 }
 
-/// What answers GETQUOTA, by the reply to its call.
+/// Appends the answer to GETQUOTA, given the reply to its call.
 fn push_get_quota(
     out: &mut Vec<u8>,
     account: &Owner,
@@ -195,7 +195,7 @@ fn push_get_quota(
     }
 }
 
-/// What answers GETQUOTAROOT of this mailbox, by the reply to its call.
+/// Appends the answer to GETQUOTAROOT of this mailbox, given the reply to its call.
 fn push_get_quota_root(
     out: &mut Vec<u8>,
     account: &Owner,
@@ -217,7 +217,7 @@ fn push_get_quota_root(
     }
 }
 
-/// What answers SETQUOTA, by the reply to its call.
+/// Appends the answer to SETQUOTA, given the reply to its call.
 fn push_set_quota(
     out: &mut Vec<u8>,
     account: &Owner,
@@ -238,7 +238,7 @@ fn push_set_quota(
     }
 }
 
-/// What answers a command, where the machine replied to its call.
+/// Appends the answer to a command, given the reply to its call.
 pub fn push_answer(
     out: &mut Vec<u8>,
     account: &Owner,
@@ -256,7 +256,7 @@ pub fn push_answer(
     }
 }
 
-/// What answers LOGOUT.
+/// Appends the answer to LOGOUT.
 pub fn push_logout(out: &mut Vec<u8>, tag: &[u8]) -> Result<(), AllocError>
     ensures { OnOk result (out.new.items ≡ out.old.items ++ logout_text tag.now) }
 {

@@ -13,8 +13,8 @@ use std::alloc::Global;
 use std::sync::Wait;
 use std::test::Fail;
 
-/// Serves a call of the owner in a turn of its own. Each call is one entry, but where there is no
-/// memory or no room.
+/// Serves a call of the owner in a turn of its own. The call becomes one entry, unless memory runs
+/// out or the journal is full.
 fn serve<R: Wait>(
     rt: &R,
     alloc: Global,

@@ -8,7 +8,7 @@ use Rattle.maildirsize.specs.Written.{written_ledger, IsSmall}
 abbrev pub pair_of : Totals → Pair
 pair_of totals = record { octets = pos totals.octets; count = pos totals.count }
 
--- one sum line
+-- the limits, and the totals as one sum line
 abbrev pub folded : LimitNumbers → Totals → List ℕ
 folded limits totals = written_ledger limits (pair_of totals ∷ [])
 
@@ -17,7 +17,7 @@ abbrev pub AreSmallPairs : List Pair → Type 0
 AreSmallPairs [] = Unit {0}
 AreSmallPairs (pair ∷ pairs) = IsSmall pair × AreSmallPairs pairs
 
--- What a ledger is written of: totals below 2 ^ 63, and behind them small pairs.
+-- What a ledger is written from: totals below 2 ^ 63, and small pairs after them.
 abbrev pub AreWritten : List Pair → Type 0
 AreWritten [] = ⊥
 AreWritten (pair ∷ pairs) = ((totals : Totals) × (totals.octets < 2 ^ 63) × (totals.count < 2 ^ 63)

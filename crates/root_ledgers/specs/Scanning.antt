@@ -14,7 +14,7 @@ abbrev pub is_wanted : Bool → Standing → Bool
 is_wanted may Settled = false
 is_wanted may Doubt = may
 
--- there is a scan exactly of a root that is wanted
+-- there is a scan exactly if the root is wanted
 pub record IsScan (wanted : Bool) (found : Option Totals) : Type 0 where
   pub there : is_some found ≡ wanted
   pub small : IfSome found AreSmall
@@ -24,18 +24,18 @@ abbrev pub IsFresh : List RootSpec → ℕ → List (List ℕ) → Option Totals
 IsFresh roots root mailboxes found rows =
     IfSome found (λ totals. totals ≡ scan roots root mailboxes rows)
 
--- a scan that has counted nothing yet, of a root that is wanted
+-- a scan that has counted nothing yet, if the root is wanted, or else none
 abbrev pub empty_scan : Bool → Option Totals
 empty_scan false = None
 empty_scan true = Some (record { octets = 0; count = 0 })
 
--- what was counted of a root, with the files of one more mailbox, where the root governs it
+-- what was counted of a root, with the files of one more mailbox if the root governs it
 abbrev pub with_files : Bool → Totals → Option Totals → Option Totals
 with_files governs files None = None
 with_files governs files (Some totals) = Some (if governs
     then cut_totals (totals.octets + files.octets) (totals.count + files.count) else totals)
 
--- the scan of a root, where it was made
+-- the scan of a root, if one was made
 abbrev pub scan_at : List (Option Totals) → ℕ → Option Totals
 scan_at scans root = slice_index_or scans root None
 
@@ -43,7 +43,7 @@ scan_at scans root = slice_index_or scans root None
 abbrev pub SomeScanned : List (Option Totals) → Type 0
 SomeScanned scans = (root : ℕ) × (is_some (scan_at scans root) ≡ true)
 
--- there are scans exactly of the roots below a number that are wanted
+-- of the roots below a number, exactly those that are wanted have a scan
 pub record AreScans (upto : ℕ) (wanted : ℕ → Bool) (scans : List (Option Totals)) : Type 0 where
   pub count : length scans ≡ upto
   pub each : (root : ℕ) → root < upto → IsScan (wanted root) (scan_at scans root)

@@ -14,7 +14,7 @@ size_of_file file = octets_of file.name file.length
 abbrev pub sizes_of : List FileRow → ℕ
 sizes_of files = sum_by size_of_file files
 
--- the sizes, and the number, of the files of the mailboxes that the root of this number governs
+-- the octets and the number of the files in the mailboxes that the root of this number governs
 abbrev pub scanned_octets : List RootSpec → ℕ → List (List ℕ) → List Row → ℕ
 scanned_octets roots root mailboxes rows = sum_by (λ mailbox.
     if governs_at roots root mailbox then sizes_of (listed mailbox rows) else 0) mailboxes

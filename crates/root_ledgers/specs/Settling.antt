@@ -1,4 +1,4 @@
--- What is kept of the roots of an account, and what settling does to it and to their ledgers.
+-- What is kept in memory of an account's roots, and how settling changes it and the roots' ledgers.
 use Rattle.std.specs.Prelude.{◌≡◌, ◌<◌, ◌≤◌, ◌⊎◌, ℕ, Bool, true, List, length, map, set, slice_index_or, Option, Some, All}
 use Rattle.quota_units.specs.Limiting.{LimitNumbers}
 use Rattle.quota_units.specs.Sums.{AreSmall}
@@ -21,17 +21,17 @@ pub record Kept : Type 0 where
 abbrev pub kept_of : List LimitNumbers → List Book → Kept
 kept_of limits books = record { limits = limits; books = books }
 
--- there is a book for each limit, for four roots at most, and no total is large
+-- each root's limits have a book, there are at most four roots, and each total is below 2 ^ 62
 pub record AreKept (k : Kept) : Type 0 where
   pub each : length k.books ≡ length k.limits
   pub few : length k.limits ≤ 4
   pub small : All (λ (book : Book). AreSmall book.totals) k.books
 
--- nothing changes of what is kept of the roots and of the files
+-- what is kept of the roots stays, and the files stay
 abbrev pub Spared : Kept → Kept → Option Told → Option Told → Type 0
 Spared k k' told told' = (k' ≡ k) × Changes (OnFiles (λ files files'. files' ≡ files)) told told'
 
--- what is kept of no root
+-- the book at a number that no root has
 abbrev pub no_book : Book
 no_book = record { totals = record { octets = 0; count = 0 }; standing = Doubt; length = 0 }
 
@@ -44,31 +44,33 @@ standings_of books = map (λ book. book.standing) books
 abbrev pub lengths_of : List Book → List ℕ
 lengths_of books = map (λ book. book.length) books
 
--- what is kept of a root whose ledger is folded
+-- the book of a root whose ledger was folded
 abbrev pub folded_book : LimitNumbers → Totals → Book
 folded_book limits totals =
     record { totals = totals; standing = Settled; length = length (folded limits totals) }
 
--- a root has these limits and totals, and its ledger is folded
+-- what is kept after a root got these limits and totals, and its ledger was folded
 abbrev pub with_folded : Kept → ℕ → LimitNumbers → Totals → Kept
 with_folded k root limits totals = record {
   limits = set k.limits root limits;
   books = set k.books root (folded_book limits totals);
 }
 
--- what is kept of a settled root: its usage, and the length of its ledger, which is right
+-- the book of a settled root has the root's usage and the length of the ledger, and the ledger is
+-- right
 pub record IsKept (limits : LimitNumbers) (usage : Totals) (ledger : Option (List ℕ))
     (bytes : List ℕ) (book : Book) : Type 0 where
   pub totals : book.totals ≡ usage
   pub right : IsRight limits usage ledger
   pub long : book.length ≡ length bytes
 
--- nothing changes of a root
+-- the book and the ledger of a root stay
 pub record Stays (book book' : Book) (ledger ledger' : Option (List ℕ)) : Type 0 where
   pub book_is : book' ≡ book
   pub ledger_is : ledger' ≡ ledger
 
--- a root in doubt has these totals, and the folded text of them as its ledger
+-- a root in doubt is settled: its book has these totals, and its ledger is the folded text of its
+-- limits and these totals
 pub record Settles (limits : LimitNumbers) (totals : Totals) (book book' : Book)
     (ledger' : Option (List ℕ)) : Type 0 where
   pub doubt : book.standing ≡ Doubt
@@ -81,7 +83,7 @@ abbrev pub SettlesOrStays : Bool → LimitNumbers → Totals → Book → Book �
 SettlesOrStays may limits totals book book' ledger ledger' =
     Stays book book' ledger ledger' ⊎ ((may ≡ true) × Settles limits totals book book' ledger')
 
--- some of the roots that may be settled are, each by a fresh scan, and nothing else changes
+-- some of the roots that may be settled are settled, each by a fresh scan, and nothing else changes
 pub record Settling (may : ℕ → Bool) (roots : List RootSpec) (mailboxes : List (List ℕ))
     (k k' : Kept) (files files' : Files) : Type 0 where
   pub same : ButLedgers files files'
@@ -94,7 +96,7 @@ abbrev pub MarksOne : Bool → Standing → Standing → Type 0
 MarksOne may standing standing' =
     (standing' ≡ standing) ⊎ ((may ≡ true) × (standing ≡ Doubt) × (standing' ≡ Settled))
 
--- the same of the standings, also if nothing is told
+-- how the standings of all roots may change; this is known even if the files are not told
 pub record Marks (may : ℕ → Bool) (books books' : List Book) : Type 0 where
   pub count : length books' ≡ length books
   pub each : (root : ℕ)

@@ -1,4 +1,4 @@
-// What is kept of a quota root.
+// The book of a quota root.
 use quota_units::Totals;
 
 /// Whether the ledger of a quota root is known to be right.
@@ -11,11 +11,11 @@ pub enum Standing {
     Doubt,
 }
 
-/// What is kept of a quota root: its usage, and the length of its ledger in bytes, if it is
-/// settled.
+/// What is kept in memory of a quota root: its standing, its totals and its ledger's length. If the
+/// root is settled, the totals are its usage and the length is right.
 #[derive(Clone, Copy, Debug)]
 pub struct Book {
-    /// Octets, and messages.
+    /// In octets and messages.
     pub totals: Totals,
     pub standing: Standing,
     /// In bytes.

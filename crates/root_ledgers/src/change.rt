@@ -1,4 +1,4 @@
-// What a message that goes from one mailbox to another does to the usage of quota roots.
+// How a message that goes from one mailbox to another changes the usage of quota roots.
 ghost use Rattle.std.specs.Prelude.{◌≡◌, ◌<◌, length};
 ghost use Rattle.std.specs.Option.{option_map};
 ghost use Rattle.root_ledgers.specs.Lines.{change_at, governs_in, line_by, totals_by};
@@ -8,17 +8,17 @@ use maildirsize::{Text, print_line};
 use quota_roots::Roots;
 use quota_units::{Totals, cut_sum};
 
-/// What a message that comes to or goes from the mailboxes of a quota root does to the root's
-/// usage.
+/// How the usage of a quota root changes if a message comes to the mailboxes that the root governs,
+/// or leaves them.
 #[derive(Clone, Copy, Debug, PartialEq, Eq)]
 pub enum Change {
-    /// Its octets and one message more.
+    /// The usage grows by the message's octets and one message.
     Comes,
-    /// Its octets and one message less.
+    /// The usage shrinks by the message's octets and one message.
     Goes,
 }
 
-/// Whether the root governs the mailbox, where there is one.
+/// Whether there is a mailbox and the root governs it.
 fn governs_in(roots: &Roots, root: u32, mailbox: Option<&[u8]>) -> bool
     requires { root < length roots.now }
     ensures { result ≡ governs_in roots.now root (option_map (λ m. m.now) mailbox.entry) }
@@ -29,8 +29,8 @@ fn governs_in(roots: &Roots, root: u32, mailbox: Option<&[u8]>) -> bool
     }
 }
 
-/// What a message that goes from one mailbox to another does to the usage of the root; one that is
-/// delivered comes from none, and one that is removed goes to none.
+/// How a message that goes from one mailbox to another changes the usage of the root; `None` if it
+/// does not. A delivered message comes from no mailbox, and a removed message goes to none.
 pub(crate) fn change_at(
     roots: &Roots,
     root: u32,
@@ -48,7 +48,7 @@ pub(crate) fn change_at(
     }
 }
 
-/// Sets the text to the line of a message of so many octets.
+/// Sets `line` to the line of this change by a message of `octets` octets.
 pub(crate) fn print_change(change: Change, octets: u64, line: &mut Text)
     requires { octets < 1000000000000000000 }
     ensures { line.new ≡ line_by change octets }
@@ -59,7 +59,7 @@ pub(crate) fn print_change(change: Change, octets: u64, line: &mut Text)
     }
 }
 
-/// The usage then.
+/// The usage after the change.
 pub(crate) fn totals_by(change: Change, octets: u64, totals: Totals) -> Totals
     requires octets { octets < 1000000000000000000 }
     requires totals { AreSmall totals }

@@ -11,8 +11,8 @@ use keeper::Keeper;
 use maildirsize::{Text, print_folded};
 use quota_units::{Failed, Limits, Totals};
 
-/// Installs the folded text of these limits and totals as the ledger of a root, and gives the book
-/// of the root then.
+/// Installs the folded text of these limits and totals as the ledger of a root, and gives the
+/// root's new book.
 ///
 /// # Errors
 ///

@@ -1,4 +1,4 @@
-// The lines that a change of usage writes behind ledgers.
+// The lines that a change of usage appends to ledgers.
 ghost use Rattle.std.specs.Prelude.{◌≡◌, ◌+◌, ◌≢◌, ◌<◌, ◌≤◌, ℕ, All, true, false, List, length, Some, IfSome};
 ghost use Rattle.std.specs.Option.{option_map};
 ghost use Rattle.admission.specs.Fitting.{limits_at};
@@ -18,11 +18,11 @@ use maildirsize::Text;
 use quota_roots::Roots;
 use quota_units::{Limits, Totals};
 
-/// The bytes that a ledger stays below.
+/// A ledger has fewer bytes than this.
 const LEDGER_ROOM: usize = 5120;
 
-/// Writes a line behind the ledger of a settled root, which has room for it. What is kept of the
-/// root then: where the write failed, the root is in doubt.
+/// Appends a line to the ledger of a settled root and gives the root's new book. The ledger has
+/// room for the line. If the write failed, the root is in doubt.
 fn append<K: Keeper>(keeper: &mut K, book: Book, root: u32, line: &[u8], totals: Totals) -> Book
     requires root { root < 4 }
     requires settled { book.standing ≡ Settled }
@@ -55,8 +55,8 @@ fn append<K: Keeper>(keeper: &mut K, book: Book, root: u32, line: &[u8], totals:
     }
 }
 
-/// Writes a folded text in place of the ledger of a settled root, which has no room for a line.
-/// What is kept of the root then: if the write failed, the root is in doubt.
+/// Writes a folded text in place of the ledger of a settled root, because the ledger has no room
+/// for a line. Gives the root's new book. If the write failed, the root is in doubt.
 fn fold<K: Keeper>(keeper: &mut K, limits: &Limits, book: Book, root: u32, totals: Totals) -> Book
     requires root { root < 4 }
     requires settled { book.standing ≡ Settled }
@@ -84,9 +84,9 @@ fn fold<K: Keeper>(keeper: &mut K, limits: &Limits, book: Book, root: u32, total
     }
 }
 
-/// Writes the line of a change behind the ledger of a settled root, or the folded text in its place
-/// where there is no room for the line. What is kept of the root then: where the write failed, the
-/// root is in doubt.
+/// Appends the line of a change to the ledger of a settled root, or writes the folded text in place
+/// of the ledger if it has no room for the line. Gives the root's new book. If the write failed,
+/// the root is in doubt.
 fn post<K: Keeper>(
     keeper: &mut K,
     limits: &Limits,
@@ -124,7 +124,7 @@ fn post<K: Keeper>(
     }
 }
 
-/// Writes the line of one root, where the root is settled and its usage changes.
+/// Writes the line of one root, if the root is settled and its usage changes.
 fn post_at<K: Keeper>(
     keeper: &mut K,
     roots: &Roots,
@@ -176,9 +176,10 @@ fn post_at<K: Keeper>(
     }
 }
 
-/// Writes the lines of a message of so many octets that goes from one mailbox to another: one for
-/// each settled root whose usage changes. A root whose line, or the folded text in its place, can't
-/// be written is in doubt then.
+/// Writes the lines of a message of `octets` octets that goes from one mailbox to another. The
+/// ledger of each settled root whose usage changes gets one line, or is replaced by the folded text
+/// if it has no room for the line. If the line or the folded text can't be written, the root is in
+/// doubt then.
 pub(crate) fn write_lines<K: Keeper>(
     keeper: &mut K,
     roots: &Roots,

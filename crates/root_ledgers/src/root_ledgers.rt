@@ -22,7 +22,7 @@ use quota_units::{Failed, Limits, Name, Totals};
 use std::alloc::{AllocError, Global};
 use std::marker::Model;
 
-/// What is kept in memory of an account's quota roots: the limits of each, and its book.
+/// What is kept in memory of an account's quota roots: the limits and the book of each root.
 ///
 /// Contracts see the limits and the books, in the order of the roots.
 #[derive(Drop)]
@@ -42,11 +42,11 @@ impl Model for RootLedgers {
 }
 
 impl RootLedgers {
-    /// Roots with these limits, each of which is in doubt.
+    /// Roots with these limits. Each root is in doubt.
     ///
     /// # Errors
     ///
-    /// There was no memory.
+    /// Memory ran out.
     pub fn in_doubt(alloc: Global, limits: Vec<Limits>) -> Result<RootLedgers, AllocError>
         requires { length limits.items ≤ 4 }
         ensures limits { IfOk result (λ kept. kept.limits ≡ limits.items) }
@@ -57,7 +57,8 @@ impl RootLedgers {
         Ok(RootLedgers { limits, books })
     }
 
-    /// There is a book for each limit, for four roots at most, and no total is large.
+    /// Shows contracts that there is a book for each root's limits, that there are at most four
+    /// roots, and that each total is below 2^62.
     pub fn show_kept(&self)
         ensures { AreKept self.now }
     {
@@ -78,14 +79,15 @@ impl RootLedgers {
         &self.books
     }
 
-    /// Settles each root of the set that is in doubt: the mailboxes that one of them governs are
-    /// listed, each once, and the folded text of what the files of its mailboxes add up to is
-    /// installed as the ledger of each. All memory is taken before a ledger is changed.
+    /// Settles each root of the set that is in doubt. Each mailbox that such a root governs is
+    /// listed once. Then each such root gets a new ledger: the folded text of its limits and of
+    /// what the files of its mailboxes add up to. All memory is taken before a ledger is changed.
     ///
     /// # Errors
     ///
     /// `Failed` if the store failed. One of these roots is still in doubt then, with its ledger as
-    /// it was, and others may be settled. `NoMemory`: nothing has changed.
+    /// it was, and others may be settled. `NoMemory` if memory runs out. All roots and files are as
+    /// before then.
     pub fn settle<K: Keeper>(
         &mut self,
         alloc: Global,
@@ -123,12 +125,12 @@ impl RootLedgers {
         )
     }
 
-    /// Gives a root these limits and totals: the folded text of them is installed as its ledger,
-    /// and it is settled then.
+    /// Gives a root these limits and totals: installs their folded text as the root's ledger. The
+    /// root is settled then.
     ///
     /// # Errors
     ///
-    /// The store failed. Nothing has changed then.
+    /// The store failed. The limits, the books and all files are as before then.
     pub fn fold<K: Keeper>(
         &mut self,
         keeper: &mut K,
@@ -157,11 +159,11 @@ impl RootLedgers {
         Ok(())
     }
 
-    /// Writes the lines of a message of `octets` octets that goes from one mailbox to another: one
-    /// for each settled root whose usage changes, or the folded text in place of its ledger if that
-    /// has no room for the line. A root whose line or folded text can't be written is in doubt
-    /// then. A message that is delivered comes from no mailbox, and one that is removed goes to
-    /// none.
+    /// Writes the lines of a message of `octets` octets, below 10^18, that goes from one mailbox to
+    /// another. The ledger of each settled root whose usage changes gets one line, or is replaced
+    /// by the folded text if it has no room for the line. If the line or the folded text can't be
+    /// written, the root is in doubt then. A delivered message comes from no mailbox, and a removed
+    /// message goes to none.
     pub fn write_lines<K: Keeper>(
         &mut self,
         keeper: &mut K,
@@ -203,11 +205,11 @@ impl RootLedgers {
     }
 }
 
-/// What is kept of this many roots that are in doubt.
+/// The books of this many roots in doubt.
 ///
 /// # Errors
 ///
-/// There was no memory.
+/// Memory ran out.
 fn books_in_doubt(alloc: Global, count: usize) -> Result<Vec<Book>, AllocError>
     ensures count { IfOk result (λ books. length books.items ≡ count) }
     ensures doubt { IfOk result (λ books. (root : ℕ)

@@ -1,4 +1,4 @@
-// Fresh scans of roots: each mailbox is listed once for all of them.
+// Fresh scans of roots. Each mailbox is listed at most once for all of them.
 ghost use Rattle.std.specs.Prelude.{◌≡◌, ◌<◌, ◌^◌, ℕ, true, false, is_some, length, IfOk, IfSome, IsErrOf};
 ghost use Rattle.quota_units.specs.Causes.{HasCause};
 ghost use Rattle.quota_units.specs.Sums.{AreSmall, cut_totals};
@@ -16,7 +16,8 @@ use quota_roots::{RootSet, Roots};
 use quota_units::{Name, Totals, cut_sum};
 use std::alloc::{AllocError, Global};
 
-/// The octets of the message that a file tells.
+/// The octets of the message in a file: the size that the file's name states, or else the file's
+/// length. A size is cut at 2^40 - 1.
 pub fn size_of_file(file: &FileRow) -> u64
     ensures value { result ≡ size_of_file file.now }
     ensures cut { result < 1000000000000000000 }
@@ -25,7 +26,7 @@ pub fn size_of_file(file: &FileRow) -> u64
     size_of(&parse_name(file.name.as_slice()), file.length)
 }
 
-/// What the files add up to.
+/// What the files add up to, in octets and messages. Each sum is cut at 2^62 - 1.
 pub fn totals_of_files(files: &[FileRow]) -> Totals
     ensures value { result ≡ cut_totals (sizes_of files.now) (length files.now) }
     ensures small { AreSmall result }
@@ -44,7 +45,7 @@ pub fn totals_of_files(files: &[FileRow]) -> Totals
     totals
 }
 
-/// A scan that has counted nothing yet, if a root is in doubt and may be settled; none else.
+/// A scan that has counted nothing yet, if the root is in doubt and may be settled, or else none.
 fn empty_scan(may: bool, standing: Standing) -> Option<Totals>
     ensures value { result ≡ empty_scan (is_wanted may standing) }
     ensures scan { IsScan (is_wanted may standing) result }
@@ -58,8 +59,8 @@ fn empty_scan(may: bool, standing: Standing) -> Option<Totals>
     }
 }
 
-/// Scans that have counted nothing yet, of each root of the set that is in doubt; none of the other
-/// roots.
+/// A scan that has counted nothing yet for each root of the set that is in doubt, and none for each
+/// other root.
 fn empty_scans(
     alloc: Global,
     roots: &Roots,
@@ -95,7 +96,7 @@ fn is_counted(scans: &[Option<Totals>], roots: &Roots, mailbox: &[u8]) -> bool
     false
 }
 
-/// What was counted of a root, with the files of one more mailbox, where the root governs it.
+/// What was counted of a root, with the files of one more mailbox if the root governs it.
 fn with_files(found: Option<Totals>, governs: bool, files: Totals) -> Option<Totals>
     requires found { IfSome found AreSmall }
     requires files { AreSmall files }
@@ -132,7 +133,7 @@ fn count_files(scans: &mut Vec<Option<Totals>>, roots: &Roots, mailbox: &[u8], f
 ///
 /// # Errors
 ///
-/// `Failed` if the store failed, and `NoMemory`.
+/// `Failed` if the store failed, and `NoMemory` if memory runs out.
 pub(crate) fn scan_each<K: Keeper>(
     alloc: Global,
     keeper: &mut K,

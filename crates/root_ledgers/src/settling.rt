@@ -1,4 +1,4 @@
-// Roots in doubt are settled.
+// Settling roots in doubt.
 ghost use Rattle.std.specs.Prelude.{◌≡◌, ◌<◌, ◌≤◌, ℕ, true, length, nat_eq, IfSome, OnOk, OnErr, IsErr, IsErrOf, All};
 ghost use Rattle.quota_units.specs.Causes.{HasCause};
 ghost use Rattle.quota_units.specs.Sums.{AreSmall};
@@ -16,12 +16,12 @@ use quota_roots::{RootSet, Roots};
 use quota_units::{Failed, Limits, Name, Totals};
 use std::alloc::Global;
 
-/// Installs the folded text of a fresh scan as the ledger of a root in doubt, which is settled
-/// then.
+/// Settles a root in doubt: installs the folded text of its limits and of a fresh scan as its
+/// ledger.
 ///
 /// # Errors
 ///
-/// The store failed. The root is in doubt still, and its ledger as before.
+/// The store failed. The root is still in doubt, and its ledger is as before.
 fn settle_by<K: Keeper>(
     keeper: &mut K,
     roots: &Roots,
@@ -58,13 +58,14 @@ fn settle_by<K: Keeper>(
     Ok(())
 }
 
-/// Settles each root of the set that is in doubt by a fresh scan. All memory is taken before a
+/// Settles, by a fresh scan, each root of the set that is in doubt. All memory is taken before a
 /// ledger is changed.
 ///
 /// # Errors
 ///
-/// `Failed` if the store failed: one of these roots is still in doubt then, with its ledger as it
-/// was, and others may be settled. `NoMemory`: nothing has changed.
+/// `Failed` if the store failed. One of these roots is still in doubt then, with its ledger as it
+/// was, and others may be settled. `NoMemory` if memory runs out. All roots and files are as before
+/// then.
 pub(crate) fn settle<K: Keeper>(
     alloc: Global,
     keeper: &mut K,

@@ -1,4 +1,4 @@
-// The calls of an account, by their words.
+// The calls of an account, written in words.
 ghost use Rattle.std.specs.Prelude.{[], IfOk};
 ghost use Rattle.account_core.specs.Legality.{HasBytes, MayBeAsked};
 
@@ -12,7 +12,7 @@ use std::test::Fail;
 /// The longest message, in octets.
 const MAX_MESSAGE: u64 = 67108864;
 
-/// Does the step that these words say, and gives its answer.
+/// Does the step that these words say, and returns its answer.
 fn answer<K: Keeper>(
     alloc: Global,
     account: &mut AccountState<K>,
@@ -47,7 +47,8 @@ pub(crate) fn check_steps<K: Keeper>(
     Ok(())
 }
 
-/// The call that these words say; `-` is the empty name, no flag and no limit.
+/// The call that these words say. The word `-` stands for the empty name, for no flags and for no
+/// limit.
 fn call_of(alloc: Global, words: [&str; 4]) -> Result<Call, Fail>
     ensures served { IfOk result MayBeAsked }
     ensures bytes { IfOk result (λ call. HasBytes call []) }
@@ -94,7 +95,7 @@ fn limit_of(word: &str) -> Result<Option<u64>, Fail> {
     Ok(Some(word.parse::<u64>()?))
 }
 
-/// Delivers a message of so many octets, each `x`.
+/// Delivers a message of this many octets, each `x`.
 fn deliver<K: Keeper>(
     alloc: Global,
     account: &mut AccountState<K>,
@@ -116,7 +117,7 @@ fn deliver<K: Keeper>(
     shown(alloc, &answer)
 }
 
-/// What a call without octets is answered.
+/// The answer to a call without octets.
 fn serve<K: Keeper>(
     alloc: Global,
     account: &mut AccountState<K>,
@@ -129,7 +130,7 @@ fn serve<K: Keeper>(
     shown(alloc, &answer)
 }
 
-/// An answer, of the row of a root its octets and messages, and their limits.
+/// An answer in words. For the row of a root, these are its octets and messages, and their limits.
 fn shown(alloc: Global, answer: &Result<Reply, StepError>) -> Result<String, Fail> {
     match answer {
         Ok(Reply::Quota(row) | Reply::LimitsSet(row)) => {

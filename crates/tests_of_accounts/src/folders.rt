@@ -14,10 +14,10 @@ use std::process::Abort;
 use std::test::Fail;
 use std::{fs, io};
 
-// A step is a call, one a line. After an arrow stands its answer. In a text `;` is a line's end and
-// `_` a space.
+// Each line is a step, which is a call. Its answer comes after an arrow. In a text `;` stands for a
+// line feed and `_` for a space.
 
-/// A first day of the account.
+/// The steps after the account is opened for the first time.
 const FIRST: &str = "standings => doubt;doubt;
 deliver INBOX 400 - => Delivered { number: 1 }
 deliver INBOX 300 S => Delivered { number: 2 }
@@ -34,7 +34,7 @@ usage 0 => 510 3
 usage 1 => 60 1
 standings => settled;settled;";
 
-/// The files that are left after it.
+/// The files that are left after these steps.
 const FIRST_FILES: [(&str, &str); 4] = [
     ("ann/new", "1700000000.3.quotad,S=50;"),
     ("ann/cur", "1700000000.1.quotad,S=400:2,FS;"),
@@ -50,7 +50,8 @@ const FIRST_LEDGERS: [(&str, &str); 2] = [
     ("ann/maildirsize.1", "7C;60_1;"),
 ];
 
-/// The next second: the messages, the limits and the usages are as they were.
+/// The steps after it is opened again, in the next second. The messages, the limits and the usages
+/// are as they were.
 const SECOND: &str = "standings => doubt;doubt;
 usage 0 => 510 3
 quota lists => 60 1 of None Some(7)
@@ -84,8 +85,8 @@ fn limits(octets: Option<u64>, count: Option<u64>) -> Result<Limits, Fail> {
     Ok(Limits::new(octets, count).ok_or("limits in range")?)
 }
 
-/// INBOX, Lists and Trash; a root of 100000 octets and 10 messages, and one of the lists of 5
-/// messages.
+/// The setup: INBOX, Lists and Trash; a root with limits of 100000 octets and 10 messages, and a
+/// root of the lists with a limit of 5 messages.
 fn setup(alloc: Global) -> Result<Setup, Fail> {
     let all = RootSpec {
         name: Name::of(alloc, b"")?,
@@ -125,7 +126,8 @@ fn open(alloc: Global, stores: &mut FsStores<HostRuntime>, second: u64) -> Resul
     }
 }
 
-/// Closes the account, and gives the keeper's counts of faults, that of appends last.
+/// Closes the account, and returns the keeper's two counts of faults. The second is that of
+/// appends.
 fn close(stores: &mut FsStores<HostRuntime>, account: Account) -> (u64, u64) {
     let keeper = account.into_keeper();
     let faults = (keeper.faults(), keeper.append_faults());
@@ -133,7 +135,7 @@ fn close(stores: &mut FsStores<HostRuntime>, account: Account) -> (u64, u64) {
     faults
 }
 
-/// The names that stand in a folder, in their order.
+/// The names in a folder, in their order.
 fn names_in(rt: &(impl Files + AllocGlobal + Clone + Drop), folder: &str) -> Result<String, Fail> {
     let alloc = rt.alloc();
     let mut names = Vec::new(alloc);
@@ -149,7 +151,7 @@ fn names_in(rt: &(impl Files + AllocGlobal + Clone + Drop), folder: &str) -> Res
     Ok(shown)
 }
 
-/// Checks which names stand in folders.
+/// Checks which names are in folders.
 fn check_folders(
     rt: &(impl Abort + Files + AllocGlobal + Clone + Drop),
     folders: &[(&str, &str)],
@@ -176,7 +178,7 @@ fn check_files(
     Ok(())
 }
 
-/// The stores below `mail`, which is made anew.
+/// The stores in a new folder `mail`.
 fn stores(rt: HostRuntime) -> Result<FsStores<HostRuntime>, Fail> {
     let _ = fs::remove_dir_all(&rt, "mail");
     fs::create_dir(&rt, "mail")?;
@@ -202,7 +204,7 @@ fn an_account_is_as_it_was_when_it_is_opened_again(rt: HostRuntime) -> Result<()
     Ok(())
 }
 
-/// What stands in the place of a ledger.
+/// What is in the place of a ledger.
 #[derive(Drop)]
 enum Found {
     Text(&'static str),
@@ -212,7 +214,7 @@ enum Found {
     Nothing,
 }
 
-/// Puts this in the place of the ledger of root 0. What is answered keeps a pipe open.
+/// Puts this in the place of the ledger of root 0. The value that it returns keeps a pipe open.
 fn put_ledger(
     rt: &HostRuntime,
     found: &Found,

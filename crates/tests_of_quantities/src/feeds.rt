@@ -7,7 +7,7 @@ use std::io::{ErrorKind, Write};
 use std::test::Fail;
 use wire_io::{Feed, FeedEnd, LineEnd, MemSink, MemSource, Sink, Source, StdSink, StdSource, send};
 
-/// A source of this text, which fails one read, or none for 0.
+/// A source of this text. The read whose number is `fail` fails; if `fail` is 0, no read fails.
 fn source(alloc: Global, text: &[u8], piece: usize, fail: u64) -> Result<MemSource, AllocError>
     requires { 0 < piece }
 {
@@ -21,8 +21,9 @@ fn source(alloc: Global, text: &[u8], piece: usize, fail: u64) -> Result<MemSour
 #[test]
 fn a_feed_ends_at_the_end_at_a_fault_and_at_its_limit(rt: HostRuntime) -> Result<(), Fail> {
     let alloc = rt.alloc();
-    // The read that fails and the feed's limit; how a line ends, what is handed out, how two bytes
-    // more end, and what is handed out.
+    // The number of the read that fails, or 0, and the feed's limit; how the read of a line ends,
+    // and what is handed out by then; how the read of two more bytes ends, and what is handed out
+    // by then.
     let cases = [
         (
             0,
@@ -50,8 +51,8 @@ fn a_feed_ends_at_the_end_at_a_fault_and_at_its_limit(rt: HostRuntime) -> Result
 #[test]
 fn a_line_is_whole_too_long_or_cut(rt: HostRuntime) -> Result<(), Fail> {
     let alloc = rt.alloc();
-    // The text, the most bytes of a read, the feed's limit and those of the line; how it ends, and
-    // what is handed out.
+    // The text, the most bytes of a read, the feed's limit and the most bytes of the line; how the
+    // line ends, and what is handed out.
     let cases = [
         ("abc\nd", 9, 100, 4, Ok(LineEnd::Whole), "abc\n"),
         ("abc\nd", 1, 100, 4, Ok(LineEnd::Whole), "abc\n"),
@@ -86,8 +87,8 @@ fn a_line_is_whole_too_long_or_cut(rt: HostRuntime) -> Result<(), Fail> {
 #[test]
 fn so_many_bytes_are_all_or_cut(rt: HostRuntime) -> Result<(), Fail> {
     let alloc = rt.alloc();
-    // The text, the most bytes of a read, the feed's limit and the count; how it ends, and what is
-    // handed out.
+    // The text, the most bytes of a read, the feed's limit and the count; how the call ends, and
+    // what is handed out.
     let cases = [
         ("ab\ncd", 9, 100, 4, Ok(()), "ab\nc"),
         ("ab\ncd", 1, 100, 4, Ok(()), "ab\nc"),
@@ -129,7 +130,7 @@ fn a_line_may_be_longer_than_a_read(rt: HostRuntime) -> Result<(), Fail> {
     Ok(())
 }
 
-/// A source that tells how many bytes each of its first reads asked for.
+/// A source that records how many bytes each of its first four reads asked for.
 #[derive(Drop)]
 struct Asked {
     sizes: [usize; 4],
@@ -170,7 +171,7 @@ fn a_sink_in_memory_fails_when_told_and_when_full(rt: HostRuntime) -> Result<(),
     let mut fails = Vec::new(rt.alloc());
     fails.push(2)?;
     let mut sink = MemSink::new(rt.alloc(), 2, 5, fails)?;
-    // What is offered; how the write ends, and what is written then.
+    // The bytes that are offered; how the write ends, and all that is written after it.
     let cases = [
         ("abc", Ok(2), "ab"),
         ("abc", Err(Failed), "ab"),
@@ -192,7 +193,7 @@ fn a_sink_in_memory_fails_when_told_and_when_full(rt: HostRuntime) -> Result<(),
 #[test]
 fn all_or_a_front_is_sent(rt: HostRuntime) -> Result<(), Fail> {
     let mut sink = MemSink::new(rt.alloc(), 2, 5, Vec::new(rt.alloc()))?;
-    // What is sent; how that ends, and what is written then.
+    // The bytes that are sent; how the call ends, and all that is written after it.
     let cases = [
         ("abc", Ok(()), "abc"),
         ("", Ok(()), "abc"),
@@ -206,7 +207,7 @@ fn all_or_a_front_is_sent(rt: HostRuntime) -> Result<(), Fail> {
     Ok(())
 }
 
-/// A writer that counts its flushes and fails the second.
+/// A writer that counts its flushes. The second flush fails.
 #[derive(Drop)]
 struct Flushed {
     bytes: Vec<u8>,

@@ -1,4 +1,4 @@
-//! Tests of what stands lowest: quantities and names, quota roots, fitting, and feeds of bytes.
+//! Tests of the lowest crates: quantities and names, quota roots, fitting, and feeds of bytes.
 #![tactic(auto)]
 
 #[cfg(test)]

@@ -191,7 +191,7 @@ fn the_first_wrong_root_is_named(rt: HostRuntime) -> Result<(), Fail> {
     Ok(())
 }
 
-/// A setup with one root without a prefix, so many items of limits, and these mailboxes.
+/// A setup with one root without a prefix, these items of limits, these mailboxes and this journal.
 fn setup(
     alloc: Global,
     limits: &[Limits],

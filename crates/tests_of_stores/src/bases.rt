@@ -1,4 +1,4 @@
-// Rows of roots, sets of roots and totals, one behind another.
+// Rows of roots, sets of roots and totals, one after another.
 
 use account_core::{RootRow, RootRows, RootSets, TotalsList, delivered_base};
 use quota_roots::{RootSpec, Roots};

@@ -1,4 +1,4 @@
-// What an opening removes of what an earlier run left in `tmp`.
+// Which of the files that an earlier run left in `tmp` an opening removes.
 
 use crate::folders::ann;
 use keeper::Stores;
@@ -26,7 +26,7 @@ const FILES: [(&str, u64, bool); 13] = [
     ("ann/.Taken/cur/1700000000.12.quotad:2,", 100, true),
 ];
 
-/// Writes a file, and the folders in which it stands, with the time that was so many hours ago.
+/// Writes a file, and makes the folders that hold it. The file's time is this many hours ago.
 fn write_aged(rt: &HostRuntime, path: &str, hours: u64) -> Result<(), Fail> {
     if let Some((folder, _)) = path.rsplit_once('/') {
         fs::create_dir_all(rt, folder)?;

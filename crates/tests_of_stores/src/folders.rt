@@ -13,11 +13,11 @@ use std::test::Fail;
 use std::time::{Clock, Duration};
 use std::{fs, io};
 
-// Steps in a tree `mail`, one a line: a call of the keeper of the account `ann`, or a look at the
-// files, as another program has it. After an arrow stands the answer, which is `ok` if none is
-// named. In a text `;` is a line's end and `_` a space.
+// Steps in a tree `mail`, one on each line. A step is a call of the keeper of the account `ann`, or
+// something that another program does with the files. The answer comes after an arrow. If a step
+// has no arrow, its answer is `ok`. In a text `;` stands for a line feed and `_` for a space.
 
-/// A store is made where nothing was, and its calls do what they say.
+/// A store is made where there was none, and its calls do what they say.
 const STORE: &str = "list INBOX => 
 list Sent => 
 read 0 => none
@@ -61,8 +61,8 @@ file ann/maildirsize => 0S;
 count ann/tmp => 0
 faults => 0 2";
 
-/// A ledger stays below 5120 octets, of which FULL are 5112; another program writes more, of which
-/// whole lines are read.
+/// A ledger stays below 5120 octets; FULL stands for 5112 octets. If another program writes a
+/// longer ledger, only whole lines of it are read.
 const ROOM: &str = "install 0 FULL
 append 0 1234_1;
 append 0 ; => failed
@@ -83,8 +83,8 @@ install 0 0S;
 append 0 1_1;
 file ann/maildirsize => 0S;1_1;";
 
-/// A ledger that is no regular file is none, and no line is written to it. A link to a file is that
-/// file.
+/// A ledger that is not a regular file counts as no ledger, and no line is written to it. A link to
+/// a file counts as that file.
 const SPECIAL: &str = "folder ann/maildirsize.1
 link ann/maildirsize /dev/zero
 link ann/maildirsize.2 nowhere
@@ -126,7 +126,7 @@ file mails/2.mx => two
 list Sent => 1.mx 3;
 faults => 0 0";
 
-/// A tree of other programs is read. A file of `cur` without flags is found there.
+/// A tree that other programs wrote is read. A file without flags in `cur` is found.
 const OTHERS: &str = "folder ann/new
 folder ann/cur
 folder ann/tmp
@@ -156,13 +156,13 @@ rename INBOX 9.mx Trash.Old 9.mx
 file ann/.Trash.Old/new/9.mx => nine
 faults => 0 0";
 
-/// Files of `new` stand before those of `cur`.
+/// Files of `new` are listed before those of `cur`.
 const ORDER: &str = "put INBOX 1.mx,S=3:2,S one
 put INBOX 2.mx,S=3 two
 first INBOX => 2.mx,S=3";
 
-/// A name that stands in `new` or `cur` is taken, and one that is not there, or has a file where a
-/// folder should be, is a fault. Nothing half-written is left.
+/// A name that is in `new` or `cur` is taken. A call is a fault if the file that it names is not
+/// there, or if a file is where a folder should be. Nothing half-written is left.
 const TAKEN: &str = "put INBOX 1.mx one
 put INBOX 2.mx two
 move ann/new/2.mx ann/cur/2.mx
@@ -195,7 +195,8 @@ install 0 0S;
 file ann/new/1.mx => one
 file ann/maildirsize => 0S;";
 
-/// Each call over a system that refuses all; `ANSWER` is what it refuses by.
+/// Each call over a system that refuses everything; `ANSWER` stands for the answer to its kind of
+/// refusal.
 const REFUSED: &str = "list INBOX => ANSWER
 read 0 => ANSWER
 put INBOX 1.mx x => failed
@@ -203,7 +204,7 @@ rename INBOX 1.mx INBOX 2.mx => failed
 remove INBOX 1.mx => failed
 install 0 0S; => failed";
 
-/// The keeper of the account `ann` below `mail`, which is made anew.
+/// The keeper of the account `ann` in a new folder `mail`.
 pub(crate) fn ann(rt: HostRuntime) -> Result<FsKeeper<HostRuntime>, Fail> {
     let alloc = rt.alloc();
     let _ = fs::remove_dir_all(&rt, "mail");
@@ -212,7 +213,7 @@ pub(crate) fn ann(rt: HostRuntime) -> Result<FsKeeper<HostRuntime>, Fail> {
     Ok(stores.open(alloc, b"ann")?)
 }
 
-/// What may be handed to another thread.
+/// Returns this value, which may be handed to another thread.
 fn handed_over<T: Send>(value: T) -> T {
     value
 }
@@ -271,7 +272,7 @@ fn words_of(step: &str) -> [&str; 5] {
     [verb, first, second, third, fourth]
 }
 
-/// A step that makes a file, a folder or a new name, by no keeper.
+/// A step that makes a file, a folder or a new name without a keeper.
 fn make(
     rt: &(impl Files + AllocGlobal + Clone + Drop),
     words: [&str; 5],
@@ -291,7 +292,7 @@ fn make(
     Ok("ok")
 }
 
-/// A step that looks at what is there, by no keeper.
+/// A step that looks at what is there without a keeper.
 fn look(
     rt: &(impl Files + AllocGlobal + Clone + Drop),
     verb: &str,
@@ -375,7 +376,7 @@ fn read_ledger<R: Files + AllocGlobal + Clone + Drop>(
     }
 }
 
-/// Does a step and gives its answer.
+/// Does a step and returns its answer.
 fn answer<R: Files + AllocGlobal + Clone + Drop>(
     rt: &(impl Files + AllocGlobal + Clone + Drop),
     keeper: &mut FsKeeper<R>,
@@ -453,7 +454,7 @@ faults => 1 1";
     Ok(())
 }
 
-/// Makes a call of the keeper, of seven, with this name in it.
+/// Makes one of seven calls of the keeper, with this name in it.
 fn call<R: Files + AllocGlobal + Clone + Drop>(
     alloc: Global,
     keeper: &mut FsKeeper<R>,
@@ -515,8 +516,8 @@ fn a_name_that_leads_elsewhere_is_a_fault_and_touches_nothing(rt: HostRuntime) -
     Ok(())
 }
 
-/// A system of which every call fails in one way; but each folder opens where `names` are given,
-/// and has these names, each ended by a byte 0.
+/// A system in which every call fails in one way. But if `names` are given, each folder opens and
+/// has these names, each ended by a byte 0.
 #[derive(Clone, Copy)]
 struct Refusing {
     rt: HostRuntime,
@@ -591,7 +592,8 @@ impl Files for Refusing {
     }
 }
 
-/// Checks the steps over such a system, and that a keeper with faults is one fault of its store.
+/// Checks the steps over such a system, and the number of faults that its stores have counted after
+/// the keeper is closed.
 fn check_refused(
     rt: &(impl Abort + Files + AllocGlobal + Clone + Drop),
     refusing: Refusing,
@@ -650,8 +652,8 @@ fn a_name_that_is_no_text_or_a_length_that_is_not_told_fails_the_listing(
             "list INBOX => failed\nfaults => 1 0",
             1,
         ),
-        // The length of a file whose name states it is not asked for. Each name stands in `new` and
-        // in `cur`.
+        // If a file's name states its length, the system is not asked for it. Each name is in `new`
+        // and in `cur`.
         (
             b".\0..\x001.mx,S=3\x002.mx,S=4:2,S\0.\xff\0",
             "list INBOX => 1.mx,S=3 3;1.mx,S=3 3;2.mx,S=4:2,S 4;2.mx,S=4:2,S 4;\nfaults => 0 0",

@@ -17,8 +17,8 @@ fn row(alloc: Global, mailbox: &[u8], name: &[u8], octets: &[u8]) -> Result<Stor
     })
 }
 
-/// A keeper with the files a of 3 octets and b of 5 in INBOX, one of its name in Lists, and a
-/// ledger of root 0.
+/// A keeper with the files `a` of 3 octets and `b` of 5 octets in INBOX, another file `a` in Lists,
+/// and a ledger of root 0.
 fn keeper(alloc: Global, fails: &[KeepFail]) -> Result<MemKeeper, Fail> {
     let rows = vec![in alloc;
         row(alloc, b"INBOX", b"a", b"123")?,
@@ -62,7 +62,7 @@ fn check_ledger<K: Keeper>(
     Ok(())
 }
 
-/// Makes a call of this kind, and says whether it was answered.
+/// Makes a call of this kind, and returns whether it succeeded.
 fn call(alloc: Global, keeper: &mut MemKeeper, kind: KeepCall, at: usize) -> bool
     requires { at < 3 }
 {
@@ -82,7 +82,7 @@ fn call(alloc: Global, keeper: &mut MemKeeper, kind: KeepCall, at: usize) -> boo
     }
 }
 
-/// Appends a line to the ledger of root 0, where there is room.
+/// Appends a line to the ledger of root 0, if there is room.
 fn append(alloc: Global, keeper: &mut MemKeeper, line: &[u8]) -> bool {
     let Ok(Some(bytes)) = keeper.read_ledger(alloc, 0) else {
         return false;
@@ -93,7 +93,8 @@ fn append(alloc: Global, keeper: &mut MemKeeper, line: &[u8]) -> bool {
     keeper.append_ledger(0, line).is_ok()
 }
 
-/// A kind of call, the files of INBOX after its second call failed, and the ledger of root 0 then.
+/// A kind of call; then the files of INBOX and the ledger of root 0 after the second call of the
+/// kind failed.
 type Row<'a> = (KeepCall, &'a [(&'a [u8], u64)], &'a [u8]);
 
 #[test]

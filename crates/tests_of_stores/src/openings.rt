@@ -1,4 +1,4 @@
-// Openings of accounts whose files a keeper in memory tells.
+// Openings of accounts over a keeper in memory, which tells its files.
 
 use account_opening::{OpenError, admit_files};
 use keeper::{Bytes, KeepCall, KeepFail, MemKeeper, StoreRow};
@@ -24,8 +24,8 @@ fn setup(alloc: Global) -> Result<Setup, Fail> {
     })
 }
 
-/// Opens an account of the epoch 1700000000 that has empty files of these mailboxes and names, and
-/// this ledger, by a keeper that fails these calls.
+/// Opens an account of the epoch 1700000000 over a keeper that fails these calls. The keeper has
+/// empty files in these mailboxes with these names, and this ledger.
 fn open(
     alloc: Global,
     files: &[(&[u8], &[u8])],

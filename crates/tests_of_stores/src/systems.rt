@@ -1,5 +1,5 @@
-// What the calls of a keeper do to the disk and in which order, by a system that writes it down,
-// and in which one thing may be broken.
+// What the calls of a keeper do to the disk, and in which order. The system under the keeper
+// records this, and one thing in the system may be broken.
 
 use crate::folders::check_steps;
 use keeper::Stores;
@@ -31,13 +31,13 @@ const MADE_FOLDER: u64 = 8;
 
 const OPENED: u64 = 9;
 
-/// What is broken of a system.
+/// What is broken in a system.
 #[derive(Clone, Copy)]
 enum Broken {
     Nothing,
     /// No file is seen by its name.
     Sight,
-    /// A folder `new` can't be opened, and so not be handed to the disk.
+    /// A folder `new` can't be opened, and so it can't be synced to the disk.
     Sync,
     /// No file can be removed from `tmp`.
     Removal,
@@ -45,7 +45,7 @@ enum Broken {
     Link,
 }
 
-/// A system that writes down what it has done, and fails in what is broken of it.
+/// A system that records what it has done, and fails in what is broken in it.
 #[derive(Clone, Copy)]
 struct Watched<'a> {
     rt: HostRuntime,
@@ -237,14 +237,14 @@ fn what_is_answered_ok_was_handed_to_the_disk_before_and_no_device_is_opened(
         ("put INBOX 1.mx one", 8958958958951234956),
         ("put INBOX 2.mx one", 1234956),
         ("put INBOX 2.mx one => failed", 0),
-        // The mailbox's folder is made, and that of the account is there.
+        // The mailbox's folder is made, and the account's folder is already there.
         ("put Sent 3.mx one", 8958958958951234956),
         // No message file is opened.
         ("list Sent => 3.mx 3;", 0),
         ("install 0 5C;", 1237),
         ("append 0 1_1;", 92),
         ("read 0 => 5C;1_1;", 9),
-        // What is no regular file is not opened.
+        // What is not a regular file is not opened.
         ("link ann/maildirsize.1 /dev/zero", 0),
         ("read 1 => none", 0),
         ("append 1 1_1; => failed", 0),
@@ -264,7 +264,7 @@ fn a_message_is_put_whole_or_not_at_all(rt: HostRuntime) -> Result<(), Fail> {
     let alloc = rt.alloc();
     let done = Cell::new(0);
     for (broken, steps) in [
-        // The name is taken, and what has it stays.
+        // The name is taken, and the file that has it stays.
         (
             Broken::Sight,
             "put INBOX 1.mx two => failed

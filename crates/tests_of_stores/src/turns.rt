@@ -1,4 +1,4 @@
-// The lock over a value of the tests' own, a list of entries beside a number.
+// The lock over a value of the tests' own: a number and a list of entries.
 ghost use Rattle.std.specs.Prelude.{◌≡◌, ◌≢◌, ◌+◌, ◌++◌, [], ◌∷◌, length, if◌then◌else◌, OnOk, OnErr, IfSome};
 ghost use Rattle.std.specs.Thread.{IsSync};
 ghost use Rattle.account_core.specs.declared.calls.Entry.{Entry};
@@ -195,7 +195,7 @@ fn work_in_two<R: Threads + Wait + Sync>(
     (first, made && also)
 }
 
-/// The calls of each of these callers stand in their order, and there are no others.
+/// Whether all calls of each of these callers are there, in their order, and no others.
 fn are_all_calls(alloc: Global, tally: &Tally, callers: usize) -> Result<bool, Fail> {
     let mut next = [0u32; 8];
     for entry in tally.entries.iter() {
@@ -300,7 +300,7 @@ fn eight_threads_share_one_history(rt: HostRuntime) -> Result<(), Fail> {
     Ok(())
 }
 
-/// Makes one call, and says whether it was made.
+/// Makes one call, and returns whether it was made.
 fn call_once<R: Wait>(rt: &R, alloc: Global, lock: &Lock<Tally>, mut pass: Pass) -> (Pass, bool)
     requires { IsOf lock.now pass }
     ensures lock { IsOf lock.now result.0 }
@@ -312,7 +312,7 @@ fn call_once<R: Wait>(rt: &R, alloc: Global, lock: &Lock<Tally>, mut pass: Pass)
     (pass, made.is_ok())
 }
 
-/// What two threads do, each with one call: of a history that is closed, each entry is one of these
+/// Two threads make one call each. After the history is closed, each of its entries is one of these
 /// calls.
 fn call_in_two<R: Threads + Wait + Sync>(
     rt: &R,

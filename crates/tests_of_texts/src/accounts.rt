@@ -1,4 +1,4 @@
-// Worked files, and the refusals of others.
+// Accounts files that are accepted, and others that are refused.
 ghost use Rattle.std.specs.Prelude.{◌<◌, length};
 
 use accounts_file::{AccountEntry, AccountsError, HostTable, Key, plain_table, read_accounts};
@@ -10,10 +10,10 @@ use std::str;
 use std::test::Fail;
 use wire_io::Wire;
 
-/// What files are answered. A line that begins with `= ` is the frame of the rows below it, which
-/// stand at its `...`. A row has its text and then, after ` => `, the answer. In both `;` ends a
-/// line of the file, and `<N:TEXT>` stands for N copies of TEXT, each with its number, from 0 on,
-/// for a `#`.
+/// Files, each with the answer to it. A line that begins with `= ` is the frame of the rows below
+/// it. The text of each row takes the place of the frame's `...`. A row is its text, an arrow `=>`
+/// and the answer. In frames and rows `;` ends a line of the file, and `<N:TEXT>` stands for N
+/// copies of TEXT. In each copy its number, from 0 on, takes the place of `#`.
 const ANSWERS: &str = r#"= ...
 [ => not TOML
  => missing account
@@ -140,8 +140,8 @@ root = [{}, {prefix = "Lists"}];[[account]];password = "p";name = "bob";token = 
 token = "TOK"; => accepted
 "#;
 
-/// What files hold: a file, as in `ANSWERS`, and then rows, each with a question to its table, ` =>
-/// ` and the answer.
+/// What files hold: a file, written as in `ANSWERS`, and then rows. A row is a question to the
+/// file's table, an arrow `=>` and the answer.
 const READINGS: [(&str, &str); 5] = [
     (
         r#"[[account]];name = "ann";password = "pw";token = "tok";admin = true;recipients = ["ann@example.org"];mailboxes = ["INBOX", "Lists", "Trash"];[[account.root]];name = "";"#,
@@ -181,8 +181,8 @@ account 1 => bob, admin false, journal 65536, sound true, mailboxes INBOX Lists 
     ),
 ];
 
-/// What the table of one account without secrets holds, whose limits are 524288 octets and 500
-/// messages.
+/// What the table of one account without secrets holds. The account's limits are 524288 octets and
+/// 500 messages.
 const PLAIN: &str = "host => 1 accounts, epoch 0, 2 workers, ports None None None
 account 0 => main, admin true, journal 65536, sound true, mailboxes INBOX Trash, root '' Some(524288) Some(500) of INBOX Lists
 named main => Some(0)
@@ -251,7 +251,7 @@ account 1 => bob, admin false, journal 65536, sound true, mailboxes INBOX, root 
 login ann change-this-password => Some(0)
 recipient Postmaster@Example.org => Some(0)";
 
-/// The file that a frame or a row of the tables stands for.
+/// The file that a row of the tables, in its frame if it has one, stands for.
 fn file(alloc: Global, row: &str) -> Result<String, Fail> {
     let mut text = String::new(alloc);
     for piece in row.split('<') {
@@ -277,7 +277,7 @@ fn push_copies(alloc: Global, text: &mut String, copies: &str) -> Result<(), Fai
     Ok(())
 }
 
-/// What a file is answered: `accepted`, or the words of its refusal.
+/// The answer to a file: `accepted`, or the words of its refusal.
 fn answer(alloc: Global, text: &str) -> Result<String, Fail> {
     let reply = read_accounts(alloc, text.as_bytes(), 1700000000);
     let words = match &reply {
@@ -383,7 +383,7 @@ fn shown(alloc: Global, account: &AccountEntry) -> Result<String, Fail> {
     Ok(text)
 }
 
-/// What a table answers to a question.
+/// The answer of a table to a question.
 fn told(alloc: Global, table: &HostTable, question: &str) -> Result<String, Fail> {
     let (word, name) = question.split_once(' ').unwrap_or((question, ""));
     match word {
@@ -396,7 +396,7 @@ fn told(alloc: Global, table: &HostTable, question: &str) -> Result<String, Fail
     }
 }
 
-/// Checks what a table answers to questions.
+/// Checks the answers of a table to questions.
 fn check_table(rt: &(impl Abort + AllocGlobal), table: &HostTable, rows: &str) -> Result<(), Fail> {
     for row in rows.lines() {
         let (question, expected) = row.split_once(" => ").unwrap_or((row, ""));

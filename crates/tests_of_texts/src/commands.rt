@@ -1,4 +1,4 @@
-// Lines that are commands, and lines that are none.
+// Lines that are commands, and lines that are not.
 use imap_grammar::{Command, CommandFault, push_astring, read_command};
 use std::alloc::Global;
 use std::test::Fail;

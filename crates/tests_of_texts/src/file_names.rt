@@ -2,7 +2,7 @@ use message_names::{NameFault, parse_name, print_name, size_of, with_flags};
 use quota_units::Flags;
 use std::test::Fail;
 
-/// The flags of letters that the table names.
+/// The flags of these letters, which a row of the table gives.
 fn flags(letters: &[u8]) -> Flags {
     Flags::among(letters)
 }

@@ -5,7 +5,7 @@ use maildirsize::{
 use quota_units::{Limits, Totals};
 use std::test::Fail;
 
-/// What a ledger of these limits, with so many sum lines of these sums, is read as.
+/// What a ledger is read as, if it has these limits, this many sum lines and these sums.
 fn ledger(
     octets_limit: Option<u64>,
     count_limit: Option<u64>,

@@ -10,8 +10,8 @@ use Rattle.wire_io.specs.declared.ends.FeedEnd.TheVariants.{Fault, Ended, Limit,
 abbrev pub gained : List ℕ → List ℕ → List ℕ
 gained old new = drop (length old) new
 
--- The bytes `got` came from the source. What waited, and then these, is what was handed out, and
--- then what waits now.
+-- The bytes `got` came from the source. The bytes that waited before, followed by `got`, are the
+-- bytes handed out, followed by those that wait now.
 pub record Hands (left left' : Option (List ℕ)) (waiting waiting' : List ℕ) (taken taken' : ℕ)
     (given : List ℕ) : Type 0 where
   pub got : List ℕ
@@ -19,15 +19,15 @@ pub record Hands (left left' : Option (List ℕ)) (waiting waiting' : List ℕ) 
   pub joined : waiting ++ got ≡ given ++ waiting'
   pub counted : taken' ≡ taken + length got
 
--- bytes that are neither a line nor so many as a line may have
+-- no line feed, and fewer bytes than a line may have
 abbrev pub IsBegun : List ℕ → ℕ → Type 0
 IsBegun given max = HasNoEnd given × (length given < max)
 
--- so many bytes as a line may have, and no line feed
+-- no line feed, and as many bytes as a line may have
 abbrev pub IsTooLong : List ℕ → ℕ → Type 0
 IsTooLong given max = HasNoEnd given × (length given ≡ max)
 
--- why no byte can be had where none waits
+-- why no byte can be had if none waits
 abbrev pub IsDry : FeedEnd → Option (List ℕ) → ℕ → ℕ → Type 0
 IsDry Fault left taken limit = taken < limit
 IsDry Ended left taken limit = (taken < limit) × IsAtEnd left

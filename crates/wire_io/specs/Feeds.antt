@@ -3,7 +3,7 @@ use Rattle.std.specs.Prelude.{ℕ, ◌+◌, List, length}
 use Rattle.wire_io.specs.declared.feed.Feed.{Feed}
 use Rattle.wire_io.specs.declared.source.Source.{Ghosts}
 
--- the source that is lent to the feed, as it stands
+-- the source that is lent to the feed, as it is now
 abbrev pub source_of : {S : Type 0} {G : Ghosts S} → Feed S G → S
 source_of feed = feed.source.now
 

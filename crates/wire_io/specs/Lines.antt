@@ -6,6 +6,6 @@ abbrev pub HasNoEnd : List ℕ → Type 0
 HasNoEnd [] = Unit {0}
 HasNoEnd (b ∷ bs) = (b ≢ 10) × HasNoEnd bs
 
--- bytes up to the first line feed, and it
+-- bytes without a line feed, and then a line feed
 abbrev pub IsLine : List ℕ → Type 0
 IsLine line = (body : List ℕ) × HasNoEnd body × (line ≡ body ++ 10 ∷ [])

@@ -5,12 +5,12 @@ use Rattle.wire_io.specs.Work.{Work}
 
 pub record Protocol (State Request Call Answer : Type 0) : Type 0 where
   pub greeting : List ℕ
-  -- what is known at the first request, as who is logged in
+  -- what is known at the first request, such as who is logged in
   pub start : State
-  -- the request that these bytes are, where they are a whole one; only the shortest such front of a
-  -- text counts
+  -- the request that these bytes spell, if they are a whole one; of a text only the shortest prefix
+  -- that is a whole request counts
   pub whole : State → List ℕ → Option Request
-  -- what is written when these bytes of a request have come, before it is answered
+  -- what is written after these bytes of a request have come, and before it is answered
   pub prompts : State → List ℕ → List ℕ
   pub work : State → Request → Work Call Answer
   -- what is known after the request
@@ -25,17 +25,17 @@ spelled_bytes [] = []
 spelled_bytes (x ∷ xs) = x.0 ++ spelled_bytes xs
 
 module _ {State Request Call Answer : Type 0} (p : Protocol State Request Call Answer) where
-  -- no shorter front of the bytes is a whole request
+  -- no proper prefix of the bytes is a whole request
   abbrev pub IsFirst : State → List ℕ → Type 0
   IsFirst state bytes = (front : List ℕ) (b : ℕ) (more : List ℕ) → bytes ≡ front ++ b ∷ more
       → p.whole state front ≡ None
 
-  -- the bytes are a whole request, and no shorter front of them is one
+  -- the bytes are a whole request, and no proper prefix of them is one
   pub record Spells (state : State) (bytes : List ℕ) (request : Request) : Type 0 where
     pub whole : p.whole state bytes ≡ Some request
     pub first : IsFirst state bytes
 
-  -- less than a request: no spelling, and the front of one
+  -- less than a request: the bytes spell no request, but they are a prefix of one
   pub record IsRest (state : State) (rest : List ℕ) : Type 0 where
     pub unspelled : (request : Request) → Spells state rest request → ⊥
     pub front : (more : List ℕ) × (request : Request) × Spells state (rest ++ more) request
@@ -45,7 +45,7 @@ module _ {State Request Call Answer : Type 0} (p : Protocol State Request Call A
   Spellings state [] last = last ≡ state
   Spellings state (x ∷ xs) last = Spells state x.0 x.1 × Spellings (p.next state x.1) xs last
 
-  -- the text is these spellings, and less than one more
+  -- the text is these spellings, and then less than one more
   pub record IsCut (state : State) (text : List ℕ) (xs : List (Spelling Request))
       (rest : List ℕ) : Type 0 where
     pub last : State
@@ -53,14 +53,14 @@ module _ {State Request Call Answer : Type 0} (p : Protocol State Request Call A
     pub text_is : text ≡ spelled_bytes xs ++ rest
     pub less : IsRest last rest
 
-  -- from each state each text has a cut, and no other
+  -- from this state the text has exactly one cut
   pub record HasOneCut (state : State) (text : List ℕ) : Type 0 where
     pub cut : (xs : List (Spelling Request)) × (rest : List ℕ) × IsCut state text xs rest
     pub only : (xs ys : List (Spelling Request)) (rest other : List ℕ) → IsCut state text xs rest
         → IsCut state text ys other → (ys ≡ xs) × (other ≡ rest)
 
-  -- what a front has to see to: no request is whole before its first byte, and each text goes on to
-  -- have a whole one
+  -- what a front must provide: the empty text is no whole request, and each text can be continued
+  -- to a whole one
   pub record IsFilled : Type 0 where
     pub starts : (state : State) → p.whole state [] ≡ None
     pub fills : (state : State) (text : List ℕ) → (more : List ℕ) × (request : Request)

@@ -13,7 +13,7 @@ reader_of source = source.reader
 abbrev pub read_faults_of : {R : Type 0} → StdSource R → ℕ
 read_faults_of source = source.faults
 
--- the writer that a sink writes
+-- the writer that a sink writes to
 abbrev pub writer_of : {W : Type 0} → StdSink W → W
 writer_of sink = sink.writer
 
@@ -25,6 +25,6 @@ write_faults_of sink = sink.faults
 abbrev pub unflushed_of : {W : Type 0} → StdSink W → ℕ
 unflushed_of sink = sink.unflushed
 
--- all known bytes but so many at the end
+-- the known bytes, without this many at the end
 abbrev pub without_last : Option (List ℕ) → ℕ → Option (List ℕ)
 without_last known count = option_map (λ bytes. take (length bytes - count) bytes) known

@@ -3,7 +3,7 @@ use Rattle.std.specs.Prelude.{◌<◌, ℕ, List, length, take}
 use Rattle.std.specs.declared.option.Option.{Option}
 use Rattle.std.specs.Io.KnownBytes.{Appends}
 
--- a front of the bytes was written, and not all of them
+-- a proper prefix of the bytes was written
 abbrev pub AppendsPart : Option (List ℕ) → Option (List ℕ) → List ℕ → Type 0
 AppendsPart written written' bytes = (sent : ℕ) × (sent < length bytes)
     × Appends written written' (take sent bytes)

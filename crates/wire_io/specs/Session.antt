@@ -29,7 +29,7 @@ module _ {Request Call Answer : Type 0} where
   text_of [] = []
   text_of (x ∷ xs) = x.text ++ text_of xs
 
--- these are the first bytes of the others
+-- `front` is a prefix of `whole`
 abbrev pub IsFront : List ℕ → List ℕ → Type 0
 IsFront front whole = (more : List ℕ) × (whole ≡ front ++ more)
 
@@ -42,17 +42,17 @@ module _ {State Request Call Answer : Type 0} (p : Protocol State Request Call A
     pub worked : Does (p.work state x.request) x.log answer after
     pub written : x.text ≡ p.prompts state x.bytes ++ answer
 
-  -- one after another, from one state to another, with the session going on after each
+  -- exchanges one after another, from one state to another; the session goes on after each
   abbrev pub Exchanges : State → List (Exchange Request Call Answer) → State → Type 0
   Exchanges state [] last = last ≡ state
   Exchanges state (x ∷ xs) last = IsExchange state x Open
       × Exchanges (p.next state x.request) xs last
 
-  -- what came of a request: less than it, or all of it
+  -- the bytes of a request that have come: less than the request, or all of it
   abbrev pub IsPartOrAll : State → List ℕ → Type 0
   IsPartOrAll state come = IsRest p state come ⊎ ((request : Request) × Spells p state come request)
 
-  -- the session waits for more of a request, with its prompts written
+  -- the session waits for more of a request, and has written the prompts so far
   pub record Waits (state : State) (rest : List ℕ) (log : List (Call × Answer))
       (text : List ℕ) : Type 0 where
     pub less : IsRest p state rest
@@ -70,7 +70,7 @@ module _ {State Request Call Answer : Type 0} (p : Protocol State Request Call A
     pub log_is : log ≡ x.log
     pub text_is : text ≡ x.text
 
-  -- all calls of a request were made, and a front of what is written for it was
+  -- all calls of a request were made, and a prefix of its text was written
   pub record CutInText (state : State) (rest : List ℕ) (log : List (Call × Answer))
       (text : List ℕ) : Type 0 where
     pub x : Exchange Request Call Answer
@@ -81,7 +81,7 @@ module _ {State Request Call Answer : Type 0} (p : Protocol State Request Call A
     pub log_is : log ≡ x.log
     pub front : IsFront text x.text
 
-  -- a front of the prompts of a request was written, of which this had come
+  -- the bytes `come` of a request had come, and a prefix of their prompts was written
   pub record CutInPrompts (state : State) (rest : List ℕ) (log : List (Call × Answer))
       (text : List ℕ) : Type 0 where
     pub come : List ℕ
@@ -91,8 +91,8 @@ module _ {State Request Call Answer : Type 0} (p : Protocol State Request Call A
     pub no_calls : log ≡ []
     pub front : IsFront text (p.prompts state come)
 
-  -- the prompts of a request were written, of which this had come, and at most its first calls were
-  -- made
+  -- the bytes `come` of a request had come, their prompts were written, and some first calls of the
+  -- request were made, or none
   pub record GivesUp (state : State) (rest : List ℕ) (log : List (Call × Answer))
       (text : List ℕ) : Type 0 where
     pub come : List ℕ
@@ -103,8 +103,9 @@ module _ {State Request Call Answer : Type 0} (p : Protocol State Request Call A
     pub begun : (log ≡ [])
         ⊎ ((request : Request) × Spells p state come request × AsksFirst (p.work state request) log)
 
-  -- How a session ends after the requests that it outlived: by what came after them, at this place,
-  -- by the calls and the text. `nothing_left` says that the input has no more bytes.
+  -- How a session ends after the requests that it outlived. This depends on the bytes `rest` that
+  -- came after those requests, from the offset `at` on, and on the calls and the text for `rest`.
+  -- `nothing_left` says that the input has no more bytes.
   abbrev pub Ends : ℕ → Type 0 → State → ℕ → List ℕ → List (Call × Answer) → List ℕ → SessionEnd
       → Type 0
   Ends limit nothing_left state at rest log text Closed =
@@ -138,28 +139,28 @@ module _ {State Request Call Answer : Type 0} (p : Protocol State Request Call A
     pub ends : Ends limit nothing_left state
         (length (bytes_of exchanges)) rest last_log last_text end
 
-  -- or not even the greeting could be written whole, and then no request was worked
+  -- the session was worked; or the write of the greeting failed, and no byte was taken and no call
+  -- made
   abbrev pub Session : ℕ → Type 0 → List ℕ → List (Call × Answer) → List ℕ → SessionEnd → Type 0
   Session limit nothing_left taken log written end =
       IsWorked limit nothing_left taken log written end
       ⊎ ((end ≡ WriteFault) × (taken ≡ []) × (log ≡ []) × IsFront written p.greeting)
 
-  -- requests one after another, after each of which the session goes on, whatever its calls are
-  -- answered
+  -- requests one after another; the session goes on after each, whatever the answers to its calls
   abbrev pub Outlives : State → List (Spelling Request) → State → Type 0
   Outlives state [] last = last ≡ state
   Outlives state (x ∷ xs) last = Spells p state x.0 x.1 × AlwaysEnds (p.work state x.1) Open
       × Outlives (p.next state x.1) xs last
 
-  -- a request stands at the front of the bytes, within the limit, and after it the session does
-  -- this, whatever its calls are answered
+  -- the bytes begin with a request, which ends within the limit; after it the session does this,
+  -- whatever the answers to its calls
   abbrev pub IsFinished : ℕ → State → ℕ → List ℕ → After → Type 0
   IsFinished limit state at bytes after = (own : List ℕ) × (request : Request) × (unread : List ℕ)
       × Spells p state own request
       × AlwaysEnds (p.work state request) after × (bytes ≡ own ++ unread)
       × (at + length own ≤ limit)
 
-  -- how the bytes behind the requests that a session outlives end it, where nothing fails
+  -- how the bytes after the requests that a session outlives end it, if nothing fails
   abbrev pub RestEnds : ℕ → State → ℕ → List ℕ → SessionEnd → Type 0
   RestEnds limit state at bytes Closed = ((bytes ≡ []) × (at < limit))
       ⊎ IsFinished limit state at bytes Closing
@@ -172,12 +173,12 @@ module _ {State Request Call Answer : Type 0} (p : Protocol State Request Call A
   RestEnds limit state at bytes WriteFault = ⊥
   RestEnds limit state at bytes NoMemory = ⊥
 
-  -- whatever the calls of a request are answered, the session does the same after it
+  -- after a request the session does the same, whatever the answers to the request's calls
   abbrev pub EndsOneWay : Type 0
   EndsOneWay = (state : State) (request : Request) → (word : After)
       × AlwaysEnds (p.work state request) word
 
-  -- how an input ends a session of the protocol, where nothing fails
+  -- how an input ends a session of the protocol, if nothing fails
   pub record InputEnds (limit : ℕ) (input : List ℕ) (end : SessionEnd) : Type 0 where
     pub xs : List (Spelling Request)
     pub state : State
@@ -187,14 +188,14 @@ module _ {State Request Call Answer : Type 0} (p : Protocol State Request Call A
     pub ends : RestEnds limit state (length (spelled_bytes xs)) bytes end
 
 module _ {State Request Call Answer : Type 0} (p : Protocol State Request Call Answer) where
-  -- The input has an end that it decides, and a session of it ends so, unless something failed or
-  -- memory ran out.
+  -- The input decides an end, and a session over it has that end unless something failed or memory
+  -- ran out.
   pub record EndsAsDecided (limit : ℕ) (input : List ℕ) (failed : Type 0)
       (end : SessionEnd) : Type 0 where
     pub decides : (due : SessionEnd) × InputEnds p limit input due
     pub ends : (due : SessionEnd) → InputEnds p limit input due → ¬ failed → (end ≡ due)
         ⊎ (end ≡ NoMemory)
 
--- the end is none that a fault gives
+-- the end is not one that a fault gives
 abbrev pub IsQuiet : SessionEnd → Type 0
 IsQuiet end = (end ≢ ReadFault) × (end ≢ WriteFault)

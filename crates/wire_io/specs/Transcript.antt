@@ -1,5 +1,5 @@
--- The session that an input gives, as a function, where each call is answered by a world that these
--- calls alone change.
+-- The session that an input gives, as a function, if a world that these calls alone change answers
+-- each call.
 use Rattle.std.specs.Prelude.{◌≡◌, ℕ, zero, suc, ◌+◌, nat_le, List, [], ◌∷◌, ◌++◌, length, take, Option, None, Some, if◌then◌else◌}
 use Rattle.wire_io.specs.declared.ends.After.{After}
 use Rattle.wire_io.specs.declared.ends.After.TheVariants.{Open, Closing, Stopping}
@@ -18,7 +18,7 @@ pub record Answers (World Call Answer : Type 0) : Type 0 where
   pub answer : World → Call → Answer
   pub after : World → Call → World
 
--- the calls with their answers are those of the world, one after the other, up to another world
+-- the world gives these answers to these calls, one after the other, and is `last` after them
 abbrev pub IsAnswered : {World Call Answer : Type 0} → Answers World Call Answer → World
     → List (Call × Answer) → World → Type 0
 IsAnswered by world [] last = last ≡ world
@@ -36,7 +36,7 @@ abbrev pub perform : {World Call Answer : Type 0} → Answers World Call Answer 
 perform by world (ask call next) = perform by (by.after world call) (next (by.answer world call))
 perform by world (say text after) = record { text = text; after = after; world = world }
 
--- a whole request at the front of a text, and what stands behind it
+-- a whole request at the start of a text, and the bytes after it
 pub record Found (Request : Type 0) : Type 0 where
   pub own : List ℕ
   pub request : Request
@@ -59,21 +59,22 @@ going_on Open text rest = record { text = text ++ rest.text; end = rest.end }
 going_on Closing text rest = record { text = text; end = Closed }
 going_on Stopping text rest = record { text = text; end = Stopped }
 
--- the end where less than a request is left, at this place
+-- the end if less than a request is left from this offset on
 abbrev pub end_of_rest : (limit at : ℕ) → List ℕ → SessionEnd
 end_of_rest limit at [] = if nat_le limit at then InputLimit else Closed
 end_of_rest limit at (b ∷ bs) =
     if nat_le limit (at + length (b ∷ bs)) then InputLimit else Truncated at
 
 module _ {State Request Call Answer : Type 0} (p : Protocol State Request Call Answer) where
-  -- the shortest front of `come` and these bytes that is a whole request and no shorter than `come`
+  -- of `come` followed by these bytes, the shortest prefix that is a whole request and no shorter
+  -- than `come`
   abbrev pub first_request : State → (come : List ℕ) → List ℕ → Option (Found Request)
   first_request state come [] = or_later (p.whole state come) come [] None
   first_request state come (b ∷ bs) =
       or_later (p.whole state come) come (b ∷ bs) (first_request state (come ++ b ∷ []) bs)
 
   module _ {World : Type 0} (by : Answers World Call Answer) (limit : ℕ) where
-    -- the session from this place on, of at most so many requests
+    -- the session from this offset on, of at most `most` requests
     abbrev pub transcript_from : (most : ℕ) → State → World → (at : ℕ) → List ℕ → Transcript
     transcript_from zero state world at bytes = record {
       text = p.prompts state bytes;
@@ -86,7 +87,7 @@ module _ {State Request Call Answer : Type 0} (p : Protocol State Request Call A
         going_on done.after (p.prompts state found.own ++ done.text) (transcript_from most
         (p.next state found.request) done.world (at + length found.own) found.behind))
 
-    -- what the session of an input writes behind its greeting, and how it ends: its first bytes up
-    -- to the limit are looked at
+    -- what the session of an input writes after its greeting, and how it ends; of the input only
+    -- the first `limit` bytes are looked at
     abbrev pub transcript : World → List ℕ → Transcript
     transcript world input = transcript_from (suc (length input)) p.start world 0 (take limit input)

@@ -2,13 +2,13 @@
 use Rattle.std.specs.Prelude.{◌≡◌, ℕ, List, [], ◌∷◌}
 use Rattle.wire_io.specs.declared.ends.After.{After}
 
--- a call, and what is done by its answer; or a text, and what the session does after it
+-- a call, and what is done for each answer to it; or a text, and what the session does after it
 pub data Work (Call Answer : Type 0) : Type 0 where
   ask : (call : Call) (next : Answer → Work Call Answer) → Work Call Answer
   say : (text : List ℕ) (after : After) → Work Call Answer
 
 module _ {Call Answer : Type 0} where
-  -- the calls with their answers are what the work asks for, under these answers, up to its text
+  -- under these answers the work asks for exactly these calls, and then says this text
   abbrev pub Does : Work Call Answer → List (Call × Answer) → List ℕ → After → Type 0
   Does (say text after) [] written word = (written ≡ text) × (word ≡ after)
   Does (say text after) (entry ∷ log) written word = ⊥
@@ -16,13 +16,13 @@ module _ {Call Answer : Type 0} where
   Does (ask call next) (entry ∷ log) written word = (entry.0 ≡ call)
       × Does (next entry.1) log written word
 
-  -- they are the first calls that it asks for
+  -- under these answers these are the first calls that the work asks for
   abbrev pub AsksFirst : Work Call Answer → List (Call × Answer) → Type 0
   AsksFirst work [] = Unit {0}
   AsksFirst (say text after) (entry ∷ log) = ⊥
   AsksFirst (ask call next) (entry ∷ log) = (entry.0 ≡ call) × AsksFirst (next entry.1) log
 
-  -- whatever its calls are answered, the session does this after its text
+  -- the session does this after the work's text, whatever the answers to its calls
   abbrev pub AlwaysEnds : Work Call Answer → After → Type 0
   AlwaysEnds work word = (log : List (Call × Answer)) (written : List ℕ) (after : After)
       → Does work log written after → after ≡ word

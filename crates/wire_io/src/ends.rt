@@ -21,11 +21,11 @@ pub enum Wire {
 pub enum LineEnd {
     /// With its line feed.
     Whole,
-    /// Not within the most bytes that were asked for.
+    /// It has no line feed within the most bytes that were asked for.
     TooLong,
 }
 
-/// Why a feed handed out no more.
+/// Why a feed handed out no more bytes.
 #[derive(Clone, Copy, Debug, PartialEq, Eq, Error)]
 pub enum FeedEnd {
     /// The source counted a fault.
@@ -34,10 +34,10 @@ pub enum FeedEnd {
     /// The source ended first.
     #[error("the source ended")]
     Ended,
-    /// So many bytes were taken as the feed may take, and one more was needed.
+    /// The feed had taken all the bytes that it may take, and one more was needed.
     #[error("the feed's limit is reached")]
     Limit,
-    /// There was no memory for what is handed out.
+    /// Memory ran out for the bytes to hand out.
     #[error("out of memory")]
     NoMemory,
 }
@@ -76,15 +76,15 @@ pub enum SessionEnd {
     Closed,
     /// A stopping answer was written.
     Stopped,
-    /// The input ended inside a request whose first byte is at this offset, counted from the
-    /// session's first byte.
+    /// The input ended inside a request. `at` is the offset of the request's first byte, counted in
+    /// octets from the session's first byte.
     Truncated { at: u64 },
-    /// So many bytes were taken as a session may take, and one more was needed.
+    /// The session had taken all the bytes that it may take, and one more was needed.
     InputLimit,
     /// The source counted a fault.
     ReadFault,
     /// The sink counted a fault.
     WriteFault,
-    /// There was no memory.
+    /// Memory ran out.
     NoMemory,
 }

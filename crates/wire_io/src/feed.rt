@@ -9,8 +9,8 @@ use super::source::Source;
 use memchr::memchr;
 use quota_units::NoMemory;
 
-/// How many of the first bytes belong to a line that has room for so many more, and whether they
-/// end it.
+/// How many of the first bytes belong to a line that has room for `room` more, and whether they end
+/// it.
 fn line_front(bytes: &[u8], room: usize) -> (usize, bool)
     requires some { 0 < length bytes.now }
     requires room { 0 < room }
@@ -27,10 +27,10 @@ fn line_front(bytes: &[u8], room: usize) -> (usize, bool)
     }
 }
 
-/// Hands out the bytes of a source, line by line or so many at once, and never takes more of them
-/// than its limit.
+/// Hands out the bytes of a source, one line or a given number of bytes at a time. It never takes
+/// more bytes from the source than its limit.
 ///
-/// It reads ahead, at most 4096 bytes, and only where a byte is needed and none waits.
+/// It reads ahead by at most 4096 bytes. It reads only if a byte is needed and none waits.
 pub struct Feed<'a, S: Source> {
     source: &'a mut S,
     waiting: Piece,
@@ -58,7 +58,7 @@ impl<'a, S: Source> Feed<'a, S> {
     ghost use Rattle.wire_io.specs.Feeding.{gained, Hands, IsBegun, IsTooLong, IsDry};
     ghost use Rattle.wire_io.specs.Feeds.{source_of, source_name, waiting_of, handed_of, taken_of, limit_of};
 
-    /// A feed over a source, which takes at most `limit` bytes from it. It takes no memory.
+    /// A feed that takes at most `limit` bytes from the source. It allocates no memory.
     pub fn new(source: &'a mut S, limit: u64) -> Result<Feed<'a, S>, NoMemory>
         ensures always { IsOk result }
         ensures same_source { IfOk result (λ feed. source_name feed ≡ source.entry.ghost_name) }
@@ -76,32 +76,33 @@ impl<'a, S: Source> Feed<'a, S> {
         })
     }
 
-    /// How many bytes were handed out.
+    /// How many bytes the feed has handed out.
     pub fn at(&self) -> u64
         ensures { result ≡ handed_of self.now }
     {
         self.handed
     }
 
-    /// Appends one line, its line feed included, and says that it is whole.
+    /// Appends one line to `out`, its line feed included, and returns `Whole`.
     ///
-    /// A line has at most `max` bytes. Where so many hold no line feed, these are appended, and the
-    /// line is too long. It reads only where a byte is needed and none waits; `max` 0 needs none.
+    /// A line has at most `max` bytes. If the next `max` bytes hold no line feed, they are
+    /// appended, and the line is `TooLong`. The feed reads only if a byte is needed and none waits.
+    /// With `max` 0 no byte is needed.
     ///
     /// # Errors
     ///
-    /// Each comes where one more byte was needed. `Fault`: the read of it failed. `Ended`: the
-    /// source ended, and fewer bytes than the limit were taken. `Limit`: so many were taken as the
-    /// limit says. What was taken and not handed out before is appended then. `NoMemory`: `out`
-    /// could not grow, and the bytes that it did not gain still wait.
+    /// An error comes only if one more byte was needed. `Fault`: the read failed. `Ended`: the
+    /// source ended, and the feed had taken fewer bytes than its limit. `Limit`: the feed had taken
+    /// as many bytes as its limit. After these three, all bytes that were taken have been handed
+    /// out. `NoMemory`: `out` could not grow, and the bytes that it did not gain still wait.
     #[tactic(auto, using(crate::proofs::LineLemmas::line_has_end))]
     pub fn line(&mut self, out: &mut Vec<u8>, max: usize) -> Result<LineEnd, FeedEnd>
-        // The source stays the one that was lent, and no more is taken from it than the limit.
+        // The feed keeps the source that was lent to it, and takes no more bytes than its limit.
         ensures same_source { source_name self.new ≡ source_name self.old }
         ensures same_limit { limit_of self.new ≡ limit_of self.old }
         ensures within { taken_of self.new ≤ limit_of self.new }
 
-        // What `out` gains is handed out. Nothing is lost, and nothing comes twice.
+        // The bytes that `out` gains are handed out. No byte is lost, and none comes twice.
         ensures grows { out.new.items ≡ out.old.items ++ gained out.old.items out.new.items }
         ensures hands { Hands (S.left (source_of self.old)) (S.left (source_of self.new))
             (waiting_of self.old) (waiting_of self.new) (taken_of self.old) (taken_of self.new)
@@ -114,7 +115,7 @@ impl<'a, S: Source> Feed<'a, S> {
         ensures too_long { (result ≡ Ok LineEnd.TooLong)
             ↔ IsTooLong (gained out.old.items out.new.items) max }
 
-        // Below the limit the source failed or ended, and where it ended it has no byte left.
+        // Below the limit, the source failed or ended. If it ended, it has no byte left.
         ensures below_limit { (IsErrOf result FeedEnd.Fault ⊎ IsErrOf result FeedEnd.Ended)
             ↔ (IsBegun (gained out.old.items out.new.items) max × (waiting_of self.new ≡ [])
             × (taken_of self.new < limit_of self.new)) }
@@ -149,20 +150,20 @@ impl<'a, S: Source> Feed<'a, S> {
         Ok(LineEnd::TooLong)
     }
 
-    /// Appends so many bytes.
+    /// Appends the next `count` bytes to `out`.
     ///
-    /// It reads only where a byte is needed and none waits; `count` 0 needs none.
+    /// The feed reads only if a byte is needed and none waits. With `count` 0 no byte is needed.
     ///
     /// # Errors
     ///
-    /// Each comes where one more byte was needed, as for [`line`](Feed::line).
+    /// The errors are those of [`line`](Feed::line). Each comes only if one more byte was needed.
     pub fn exact(&mut self, out: &mut Vec<u8>, count: usize) -> Result<(), FeedEnd>
-        // The source stays the one that was lent, and no more is taken from it than the limit.
+        // The feed keeps the source that was lent to it, and takes no more bytes than its limit.
         ensures same_source { source_name self.new ≡ source_name self.old }
         ensures same_limit { limit_of self.new ≡ limit_of self.old }
         ensures within { taken_of self.new ≤ limit_of self.new }
 
-        // What `out` gains is handed out. Nothing is lost, and nothing comes twice.
+        // The bytes that `out` gains are handed out. No byte is lost, and none comes twice.
         ensures grows { out.new.items ≡ out.old.items ++ gained out.old.items out.new.items }
         ensures hands { Hands (S.left (source_of self.old)) (S.left (source_of self.new))
             (waiting_of self.old) (waiting_of self.new) (taken_of self.old) (taken_of self.new)
@@ -173,7 +174,7 @@ impl<'a, S: Source> Feed<'a, S> {
         ensures most { length (gained out.old.items out.new.items) ≤ count }
         ensures all { IsOk result ↔ (length (gained out.old.items out.new.items) ≡ count) }
 
-        // Below the limit the source failed or ended, and where it ended it has no byte left.
+        // Below the limit, the source failed or ended. If it ended, it has no byte left.
         ensures below_limit { (IsErrOf result FeedEnd.Fault ⊎ IsErrOf result FeedEnd.Ended)
             ↔ ((length (gained out.old.items out.new.items) < count) × (waiting_of self.new ≡ [])
             × (taken_of self.new < limit_of self.new)) }
@@ -205,7 +206,7 @@ impl<'a, S: Source> Feed<'a, S> {
         Ok(())
     }
 
-    /// Sees that a byte waits. It reads only where none does.
+    /// Makes sure that a byte waits. It reads only if none waits.
     fn ready(&mut self) -> Result<(), FeedEnd>
         ensures same_source { source_name self.new ≡ source_name self.old }
         ensures same_limit { limit_of self.new ≡ limit_of self.old }
@@ -237,7 +238,7 @@ impl<'a, S: Source> Feed<'a, S> {
         Ok(())
     }
 
-    /// Hands out the first bytes that wait.
+    /// Hands out the first `count` of the bytes that wait.
     fn hand_out(&mut self, out: &mut Vec<u8>, count: usize) -> Result<(), FeedEnd>
         requires { count ≤ length (waiting_of self.old) }
         ensures same_source { source_name self.new ≡ source_name self.old }

@@ -6,14 +6,15 @@ ghost use Rattle.wire_io.specs.declared.ends.SessionEnd.{SessionEnd as End};
 
 use crate::SessionEnd;
 
-/// A protocol in which every text goes on to have a whole request cuts each text into requests in
-/// exactly one way.
+/// A protocol with `IsFilled` cuts each text into requests in exactly one way. In such a protocol
+/// each text can be continued to a whole request, and the empty text is not one.
 pub fn each_text_has_one_cut<State, Request, Call, Answer>()
     ghost p: { Protocol State Request Call Answer }
     ensures { IsFilled p → (state : State) (text : List ℕ) → HasOneCut p state text }
 {}
 
-/// The bytes of an input decide how a session of the protocol ends, unless something fails.
+/// In a protocol with `IsFilled`, if an input decides an end, a session over it has that end,
+/// unless a read or a write fails or memory runs out.
 pub fn an_input_decides_the_end<State, Request, Call, Answer>()
     ghost p: { Protocol State Request Call Answer }
     ensures { IsFilled p → (limit : ℕ) (input taken left : List ℕ) (log : List (Call × Answer))
@@ -22,16 +23,17 @@ pub fn an_input_decides_the_end<State, Request, Call, Answer>()
         → IsQuiet end → (end ≡ due) ⊎ (end ≡ SessionEnd.NoMemory) }
 {}
 
-/// Each input has an end that it decides, if what the session does after a request never hangs on
-/// the answers to its calls.
+/// In a protocol with `IsFilled`, each input decides an end, if what the session does after a
+/// request never depends on the answers to the request's calls.
 pub fn each_input_has_an_end<State, Request, Call, Answer>()
     ghost p: { Protocol State Request Call Answer }
     ensures { IsFilled p → EndsOneWay p → (limit : ℕ) (input : List ℕ) → (due : End)
         × InputEnds p limit input due }
 {}
 
-/// Where each call is answered by a world that only these calls change, the bytes of an input
-/// decide all that a session writes, unless something fails.
+/// In a protocol with `IsFilled`, if a world that only these calls change answers each call, the
+/// bytes of an input decide all that a session writes and how it ends, unless a read or a write
+/// fails or memory runs out.
 pub fn an_input_decides_the_session<State, Request, Call, Answer, World>()
     ghost p: { Protocol State Request Call Answer × Answers World Call Answer }
     ensures { IsFilled p.0 → (limit : ℕ) (input taken left : List ℕ)

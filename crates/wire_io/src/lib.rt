@@ -1,5 +1,5 @@
 //! The edge to the outside: sources and sinks of bytes, the feed that hands out a source's bytes,
-//! and how a session ends.
+//! and the ways in which a session ends.
 #![tactic(auto)]
 
 mod ends;

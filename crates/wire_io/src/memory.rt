@@ -8,8 +8,7 @@ use quota_units::{Failed, NoMemory};
 use std::alloc::Global;
 use std::marker::Model;
 
-/// A source in memory, which gives at most so many bytes a read and fails the reads that it is told
-/// to.
+/// A source in memory. Each read gives at most a fixed number of bytes, and chosen reads fail.
 #[derive(Drop)]
 pub struct MemSource {
     bytes: Vec<u8>,
@@ -38,9 +37,9 @@ impl Model for MemSource {
 }
 
 impl MemSource {
-    /// A source of these bytes, which gives at most `piece` of them a read.
+    /// A source of these bytes. Each read gives at most `piece` of them.
     ///
-    /// It fails the reads whose numbers stand in `fails`; the first read has the number 1.
+    /// The reads whose numbers are in `fails` fail. The first read has the number 1.
     pub fn new(bytes: Vec<u8>, piece: usize, fails: Vec<u64>) -> MemSource
         requires { 0 < piece }
         ensures { result ≡ record {
@@ -90,8 +89,8 @@ impl Source for MemSource {
     }
 }
 
-/// A sink in memory, which takes at most so many bytes a write, has room for so many, and fails the
-/// writes that it is told to.
+/// A sink in memory, with a fixed room. Each write takes at most a fixed number of bytes. A write
+/// fails if it was chosen to fail or if the room is full.
 #[derive(Drop)]
 pub struct MemSink {
     bytes: Vec<u8>,
@@ -122,14 +121,14 @@ impl Model for MemSink {
 }
 
 impl MemSink {
-    /// A sink with room for `room` bytes, which are reserved, so that a write takes no memory. It
-    /// takes at most `piece` bytes a write.
+    /// A sink with room for `room` bytes. They are reserved here, so that a write allocates no
+    /// memory. Each write takes at most `piece` bytes.
     ///
-    /// It fails the writes whose numbers stand in `fails`; the first write has the number 1.
+    /// The writes whose numbers are in `fails` fail. The first write has the number 1.
     ///
     /// # Errors
     ///
-    /// `NoMemory` where there is none for the room.
+    /// `NoMemory` if memory runs out for the room.
     pub fn new(
         alloc: Global,
         piece: usize,

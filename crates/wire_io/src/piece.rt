@@ -54,7 +54,7 @@ impl Piece {
         self.to - self.from
     }
 
-    /// Leaves the first bytes out.
+    /// Drops the first `count` bytes.
     #[tactic(auto, using(crate::proofs::PieceLemmas::drop_part))]
     pub fn skip(&mut self, count: usize)
         requires { count ≤ length self.old }
@@ -63,8 +63,8 @@ impl Piece {
         self.from += count;
     }
 
-    /// Takes at most so many bytes from the source in place of none, and says how many; 0 of more
-    /// than 0 at its end.
+    /// Takes at most `most` bytes from the source into an empty piece, and returns how many. If
+    /// `most` is not 0, a return of 0 means the source's end.
     pub fn fill<S: Source>(&mut self, source: &mut S, most: u64) -> Result<usize, Failed>
         requires { self.old ≡ [] }
         ensures most { length self.new ≤ most }

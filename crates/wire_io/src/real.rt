@@ -6,7 +6,7 @@ use super::source::{Sink, Source};
 use quota_units::Failed;
 use std::io::{Read, Write};
 
-/// A source over a reader, which tells what the reader tells.
+/// A source over a reader. It shows to contracts the bytes that the reader shows.
 #[derive(Debug, Drop)]
 pub struct StdSource<R> {
     reader: R,
@@ -16,7 +16,7 @@ pub struct StdSource<R> {
 impl<R: Read> StdSource<R> {
     ghost use Rattle.wire_io.specs.Real.{reader_of, read_faults_of};
 
-    /// A source that reads this reader. Each `Err` of a read is one fault.
+    /// A source that reads this reader. Each read that returns `Err` is one fault.
     pub fn new(reader: R) -> StdSource<R>
         ensures reader { reader_of result ≡ reader }
         ensures none { read_faults_of result ≡ 0 }
@@ -45,8 +45,8 @@ impl<R: Read> Source for StdSource<R> {
 
 /// A sink over a writer. Each write is flushed, so that its bytes reach the outside.
 ///
-/// It tells what the writer tells, but for bytes that could not be flushed. After a flush that
-/// failed each write fails.
+/// It shows to contracts the bytes that the writer shows, except those that could not be flushed.
+/// Once a flush has failed after a write of one or more bytes, each write fails.
 #[derive(Debug, Drop)]
 pub struct StdSink<W> {
     writer: W,
@@ -57,8 +57,8 @@ pub struct StdSink<W> {
 impl<W: Write> StdSink<W> {
     ghost use Rattle.wire_io.specs.Real.{writer_of, unflushed_of, write_faults_of};
 
-    /// A sink that writes this writer. An `Err` of a write or of its flush is one fault, and so is
-    /// a write that takes nothing of a piece that is not empty.
+    /// A sink that writes to this writer. A write is one fault if it or its flush returns `Err`, or
+    /// if it takes no byte of a piece that is not empty.
     pub fn new(writer: W) -> StdSink<W>
         ensures writer { writer_of result ≡ writer }
         ensures flushed { unflushed_of result ≡ 0 }

@@ -5,43 +5,43 @@ ghost use Rattle.wire_io.specs.Sending.{AppendsPart};
 
 use quota_units::Failed;
 
-/// Gives bytes from its front.
+/// What bytes come from, first byte first.
 pub trait Source {
-    /// The bytes that are left, where the source tells.
+    /// The bytes that are left, if the source shows them to contracts.
     ghost left: { Self → Option (List ℕ) };
 
-    /// How often a read has failed. The count stands still at 2^64 - 1.
+    /// How often a read has failed. The count stays at 2^64 - 1 once it is there.
     ghost faults: { Self → ℕ };
 
-    /// Takes the first bytes that are left, puts them at the front of the buffer, and says how many
-    /// they are.
+    /// Takes the first bytes that are left, puts them at the start of the buffer, and returns how
+    /// many they are.
     ///
-    /// 0 for a buffer that is not empty means the end: no byte is left.
+    /// If the buffer is not empty, 0 means the end: no byte is left.
     ///
     /// # Errors
     ///
-    /// `Failed` where the read failed, which is counted. What is left then stays.
+    /// `Failed` if the read failed. The failure is counted, and the bytes that are left stay.
     fn read(&mut self, into: &mut [u8]) -> Result<usize, Failed>
         ensures bound { IfOk result (λ n. n ≤ length into.new) }
         ensures bytes { ReadConsumes (left self.old) (left self.new) result into.new }
         ensures cause { HasCause (IsErr result) (faults self.old) (faults self.new) };
 }
 
-/// Takes bytes at its end.
+/// What bytes go to, each after the one before.
 pub trait Sink {
-    /// The bytes written, where the sink tells.
+    /// The bytes written, if the sink shows them to contracts.
     ghost written: { Self → Option (List ℕ) };
 
-    /// How often a write has failed. The count stands still at 2^64 - 1.
+    /// How often a write has failed. The count stays at 2^64 - 1 once it is there.
     ghost faults: { Self → ℕ };
 
-    /// Takes the first bytes of a piece, and says how many they are: at least one if the piece is
-    /// not empty.
+    /// Takes the first bytes of a piece, and returns how many they are: at least one if the piece
+    /// is not empty.
     ///
     /// # Errors
     ///
-    /// `Failed` if the write failed, which is counted. No byte is taken then. An outside that takes
-    /// nothing of a piece that is not empty fails.
+    /// `Failed` if the write failed. The failure is counted, and no byte is taken. If the outside
+    /// takes no byte of a piece that is not empty, the write fails.
     fn write(&mut self, piece: &[u8]) -> Result<usize, Failed>
         ensures bound { IfOk result (λ n. n ≤ length piece.now) }
         ensures some { 0 < length piece.now → IfOk result (λ n. 0 < n) }
@@ -49,11 +49,12 @@ pub trait Sink {
         ensures cause { HasCause (IsErr result) (faults self.old) (faults self.new) };
 }
 
-/// Writes all of the bytes. Each write offers all that are left, and no bytes need no write.
+/// Writes all of the bytes. Each write offers all bytes that are left. If there are no bytes, no
+/// write is made.
 ///
 /// # Errors
 ///
-/// `Failed` where a write failed. A front of the bytes is written then, and not all of them.
+/// `Failed` if a write failed. A proper prefix of the bytes is written then.
 pub fn send<O: Sink>(sink: &mut O, bytes: &[u8]) -> Result<(), Failed>
     ensures sent { OnOk result (Appends (O.written sink.old) (O.written sink.new) bytes.now) }
     ensures cut { OnErr result (AppendsPart (O.written sink.old) (O.written sink.new) bytes.now) }

@@ -1,4 +1,4 @@
-// The calls of an account that is open, and what it leaves.
+// The calls of an open account, and what is left after the account is closed.
 ghost use Rattle.std.specs.Prelude.{◌<◌, []};
 ghost use Rattle.account_core.specs.Legality.{HasBytes, MayBeAsked};
 
@@ -19,7 +19,7 @@ const MANY_FILES: usize = 8;
 
 type Account = AccountState<MemKeeper>;
 
-/// Serves the call of a line, and says what it is answered.
+/// Serves the call of a line, and returns the answer.
 pub fn serve_line(
     alloc: Global,
     account: &mut Account,
@@ -103,7 +103,7 @@ fn ask(alloc: Global, account: &mut Account, words: &[&[u8]]) -> Result<String, 
     }
 }
 
-/// What a call without octets is answered, as it is printed.
+/// The answer to a call without octets, as it is printed.
 fn serve(alloc: Global, account: &mut Account, call: Call) -> Result<String, Trouble>
     requires asked { MayBeAsked call }
     requires bytes { HasBytes call [] }
@@ -112,7 +112,7 @@ fn serve(alloc: Global, account: &mut Account, call: Call) -> Result<String, Tro
     answer_text(alloc, &answer)
 }
 
-/// Delivers a message of so many octets, each `x`.
+/// Delivers a message of this many octets, each `x`.
 fn deliver(
     alloc: Global,
     account: &mut Account,
@@ -134,7 +134,7 @@ fn deliver(
     answer_text(alloc, &answer)
 }
 
-/// The flags of these letters; `-` is none.
+/// The flags of these letters; `-` stands for no flags.
 fn flags_of(letters: &[u8]) -> Result<Flags, Trouble> {
     if letters == b"-".as_slice() {
         return Ok(Flags::among(b""));
@@ -165,8 +165,9 @@ fn standings(alloc: Global, account: &Account) -> Result<String, Trouble> {
     Ok(text)
 }
 
-/// The number of calls, and what the keeper has then: the ledger of each root, and the files of
-/// each mailbox with their lengths.
+/// The number of calls, and what the keeper has after them: the ledgers of the first four roots,
+/// and the files of INBOX, Lists and Trash with their lengths. Of a mailbox with more than
+/// `MANY_FILES` files only the number of files is given.
 pub fn close(alloc: Global, account: Account) -> Result<String, Trouble> {
     let calls = account.calls();
     let roots = account.root_count();

@@ -9,7 +9,7 @@ const LONG: usize = 100;
 
 const SHOWN: usize = 24;
 
-/// The words of a line, with one space between each two.
+/// The words of a line, which have one space between each two.
 pub fn words_of(alloc: Global, line: &[u8]) -> Result<Vec<&[u8]>, Trouble> {
     let mut words = Vec::new(alloc);
     for word in line.split(|b| *b == b' ') {
@@ -22,7 +22,7 @@ pub fn text_of(alloc: Global, text: &str) -> Result<String, Trouble> {
     Ok(String::from_str(alloc, text)?)
 }
 
-/// The name that a word spells; `-` is the empty name.
+/// The name that a word spells; `-` stands for the empty name.
 pub fn name_of(alloc: Global, word: &[u8]) -> Result<Name, Trouble> {
     if word == b"-".as_slice() {
         Ok(Name::of(alloc, b"")?)
@@ -44,12 +44,12 @@ fn option_of(word: &[u8]) -> Result<Option<u64>, Trouble> {
     Ok(Some(number_of(word)?))
 }
 
-/// The limits that two words spell, in octets and in messages; `-` is none.
+/// The limits that two words spell, in octets and in messages; `-` stands for no limit.
 pub fn limits_of(octets: &[u8], count: &[u8]) -> Result<Limits, Trouble> {
     Limits::new(option_of(octets)?, option_of(count)?).ok_or(Trouble::NoForm)
 }
 
-/// The bytes of a ledger, with LF for each `|` and a space for each `_`.
+/// The bytes of a ledger that a word spells, with an LF for each `|` and a space for each `_`.
 pub fn ledger_of(alloc: Global, word: &[u8]) -> Result<Vec<u8>, Trouble> {
     let mut bytes = word.to_vec(alloc)?;
     for byte in bytes.iter_mut() {
@@ -62,8 +62,8 @@ pub fn ledger_of(alloc: Global, word: &[u8]) -> Result<Vec<u8>, Trouble> {
     Ok(bytes)
 }
 
-/// The bytes of a ledger on one line, with `|` for each LF; of a long one its length, its first
-/// bytes and its last.
+/// The bytes of a ledger on one line, with `|` for each LF. Of a long ledger only its length, its
+/// first bytes and its last bytes are shown.
 pub fn shown_ledger(alloc: Global, bytes: &[u8]) -> Result<String, Trouble> {
     if bytes.len() <= LONG {
         return shown_bytes(alloc, bytes);

@@ -15,14 +15,15 @@
 //!   `append_ledger` or `install_ledger` fails
 //! - `journal N`: how many entries the account's history may have
 //!
-//! `open` opens the account over that store, in second 1700000000. Lines that ask it:
+//! `open` opens the account over that store, as of second 1700000000. Lines that ask the account:
 //!
 //! - `deliver MAILBOX OCTETS [FLAGS]`, `check OCTETS`, `remove MAILBOX BASE`,
 //!   `mark MAILBOX BASE FLAGS`, `move FROM BASE TO`, `limits ROOT OCTETS MESSAGES`, `quota ROOT`,
 //!   `roots MAILBOX`, `status MAILBOX`, `begin` (of a scan), `part N`: one call of the account
-//! - `fill N MAILBOX OCTETS`: N such deliveries, of which the last one's answer is printed
+//! - `fill N MAILBOX OCTETS`: N such deliveries (at least one); the answer to the last is printed
 //! - `usage N`: the usage of root N, without an entry; `standings`: whether each root is settled
-//! - `close`: the number of calls, and then each ledger and each file of the store
+//! - `close`: the number of calls, each ledger, and the files of each mailbox,
+//!   or their number if there are more than 8
 #![tactic(auto)]
 
 mod account;
@@ -40,8 +41,8 @@ use std::io::{self, Read};
 use store::Store;
 use trouble::Trouble;
 
-/// What stands between two lines: a store that is described, or the account that was opened over
-/// it.
+/// What is kept between two lines: the store that is being described, and the account if one is
+/// open.
 #[derive(Drop)]
 struct Workbench {
     store: Store,
@@ -56,7 +57,7 @@ impl Workbench {
         }
     }
 
-    /// Does a line, and says what came of it.
+    /// Does a line, and returns its result.
     fn take(&mut self, alloc: Global, words: &[&[u8]]) -> Result<String, Trouble> {
         match words {
             [b"store"] => {
@@ -80,7 +81,7 @@ impl Workbench {
     }
 }
 
-/// The line, and what came of it. A line that begins with `#`, and an empty one, stands for itself.
+/// The line with its result. A line that begins with `#`, or is empty, is returned as it is.
 fn worked(alloc: Global, bench: &mut Workbench, line: &str) -> Result<String, Trouble> {
     if line.is_empty() || line.starts_with("#") {
         return text_of(alloc, line);

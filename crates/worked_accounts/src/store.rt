@@ -22,7 +22,7 @@ pub struct Store {
     journal: u32,
 }
 
-/// The calls of a keeper, by their names.
+/// The kind of keeper call that has this name.
 fn call_named(word: &[u8]) -> Result<KeepCall, Trouble> {
     match word {
         b"list" => Ok(KeepCall::List),
@@ -46,7 +46,7 @@ fn mailboxes(alloc: Global) -> Result<NameList, Trouble> {
 }
 
 impl Store {
-    /// No file, no ledger, no root, and room for 1000 entries.
+    /// A store with no file, no ledger, no root and a journal of 1000 entries.
     pub fn new(alloc: Global) -> Store {
         Store {
             rows: Vec::new(alloc),
@@ -112,8 +112,8 @@ impl Store {
         Ok(())
     }
 
-    /// The account over this store. Where no root was described it has one of the empty name,
-    /// without limits.
+    /// Opens the account over this store. If no root was described, the account has one of the
+    /// empty name, without limits.
     pub fn open(mut self, alloc: Global) -> Result<AccountState<MemKeeper>, Trouble> {
         if self.roots.is_empty() {
             let limits = limits_of(b"-", b"-")?;

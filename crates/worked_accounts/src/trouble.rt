@@ -9,7 +9,7 @@ use std::fmt;
 /// Why a line is not done.
 #[derive(Debug, Drop)]
 pub enum Trouble {
-    /// It has no form, or a value out of its range.
+    /// The line has no known form, or a value out of its range.
     NoForm,
     /// No account is open.
     NoAccount,
