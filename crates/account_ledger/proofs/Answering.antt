@@ -9,7 +9,7 @@ use Rattle.quota_units.specs.Limiting.{LimitNumbers}
 use Rattle.quota_units.specs.declared.flags.Flags.{Flags}
 use Rattle.quota_units.specs.declared.resource.Resource.{Resource}
 use Rattle.quota_units.specs.declared.totals.Totals.{Totals}
-use Rattle.quota_roots.specs.Governing.{coming, gains_by, governing, governs_at}
+use Rattle.quota_roots.specs.Governing.{gainers, gains_by, governing, governs_at}
 use Rattle.quota_roots.specs.RootLists.{root_named}
 use Rattle.quota_roots.specs.RootSets.{has_root}
 use Rattle.quota_roots.specs.declared.root.RootSpec.{RootSpec}
@@ -53,7 +53,7 @@ pub roots_prepared : (failed : Type 0) (may : ℕ → Bool) (l m : Live) → Pre
 roots_prepared failed may l m prep = ap (λ (x : Live). x.roots) prep.same
 
 -- a check
-pub check_answered : (l m : Live) (octets : ℕ) (set : List ℕ) (verdict : Verdict) (given : Reply) (failed : Type 0) → ¬ failed → set ≡ coming l.roots None (codes "INBOX")
+pub check_answered : (l m : Live) (octets : ℕ) (set : List ℕ) (verdict : Verdict) (given : Reply) (failed : Type 0) → ¬ failed → set ≡ gainers l.roots None (codes "INBOX")
     → ((root : ℕ) → has_root set root ≡ gains_by l.roots None (codes "INBOX") root) → Prepares failed (has_root set) l m → IsWhole m → AreSettled (has_root set) (store_of m)
     → ((account : Account) → Shows m account → IsVerdict (over_of m.roots account set octets) verdict)
     → ((over : Option (ℕ × Resource)) → IsVerdict over verdict → given ≡ over_or over Fits) → IsInside (length m.roots) verdict
@@ -102,7 +102,7 @@ module _ (l m : Live) (failed : Type 0) (not : ¬ failed) (may : ℕ → Bool) (
         ap (λ rs. RootsReply rs) are ∙ subst (λ roots. RootsReply (kept_rows m.roots m.limits m.books mailbox) ≡ reply_of roots account (RootsCall mailbox)) roots_m (rows_replied m account (shown_m account shows) mailbox settled_m))
         (record { kind = refl; names = subst (λ (roots : List RootSpec). All (λ (row : RootRow). row.root < length roots) rows) roots_m inside }) (λ account shows. refl) refl (λ rs. refl) tt
 
-    module _ (octets : ℕ) (flags : Flags) (there : is_mailbox_of l.mailboxes mailbox ≡ true) (set : List ℕ) (is : set ≡ coming l.roots None mailbox) (over : Option (ℕ × Resource))
+    module _ (octets : ℕ) (flags : Flags) (there : is_mailbox_of l.mailboxes mailbox ≡ true) (set : List ℕ) (is : set ≡ gainers l.roots None mailbox) (over : Option (ℕ × Resource))
         (judged : (account : Account) → Shows m account → over_of m.roots account set octets ≡ over) where
       judged_l : (account : Account) → Shows l account → over_in l.roots account mailbox octets ≡ over
       judged_l account shows = subst (λ roots. over_of roots account (governing l.roots mailbox) octets ≡ over) roots_m (subst (λ numbers. over_of m.roots account numbers octets ≡ over) is (judged account (shown_m account shows)))

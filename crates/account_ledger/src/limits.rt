@@ -35,7 +35,7 @@ impl<K: Keeper> LiveAccount<K> {
         requires inside { root < length self.old.roots }
         requires settled { AreSettled (nat_eq root) (store_of self.old) }
         ensures acts { Acts (Call.SetLimits name.now limits) [] result self.old self.new }
-        ensures never_wanting { result ≢ Err StepError.NoMemory }
+        ensures never_out_of_memory { result ≢ Err StepError.NoMemory }
     {
         self.ledgers.show_kept();
         let totals = self.ledgers.books()[root as usize].totals;

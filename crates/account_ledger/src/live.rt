@@ -100,6 +100,8 @@ impl<K: Keeper> LiveAccount<K> {
 
     /// Shows contracts that there are limits and a book for each root, and that the mailboxes are
     /// sound.
+    ///
+    /// It exists for proofs alone.
     pub(crate) fn show_whole(&self)
         ensures { IsWhole self.now }
     {

@@ -46,7 +46,7 @@ impl<K: Keeper> LiveAccount<K> {
         requires found { IfSome self.old.told
             (λ t. Some file.now ≡ file_named base.now (listed mailbox.now t.files.rows)) }
         ensures acts { Acts (Call.Remove mailbox.now base.now) [] result self.old self.new }
-        ensures never_wanting { result ≢ Err StepError.NoMemory }
+        ensures never_out_of_memory { result ≢ Err StepError.NoMemory }
     {
         self.ledgers.show_kept();
         let octets = size_of_file(file);

@@ -66,6 +66,8 @@ pub(crate) fn totals_of(books: &[Book]) -> [Totals; 4]
 }
 
 /// Shows contracts that each limit that is set is in its range.
+///
+/// It exists for proofs alone.
 pub(crate) fn show_limits(limits: &[Limits])
     ensures { All AreLimits limits.now }
 {
@@ -74,6 +76,7 @@ pub(crate) fn show_limits(limits: &[Limits])
     }
 }
 
+/// It exists for proofs alone.
 fn show_in_range(limits: &Limits)
     ensures { AreLimits limits.now }
 {

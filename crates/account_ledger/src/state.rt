@@ -333,6 +333,8 @@ impl<K: Keeper> AccountState<K> {
     }
 
     /// Shows contracts that the state is in order between any two calls.
+    ///
+    /// It exists for proofs alone.
     pub fn show_in_order(&self)
         ensures { IsInOrder self.now }
     {

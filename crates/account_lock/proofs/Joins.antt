@@ -13,7 +13,7 @@ use Rattle.account_core.specs.Histories.{Origin, Begins, EachBegins, calls_by, C
 use Rattle.account_core.proofs.Histories.{begins_whole, begins_shorter, begins_length, each_begins_both, calls_by_nobody, callers_below_up, callers_of_prefix, calls_between}
 use Rattle.account_lock.specs.Known.{View, Stage, resting, waiting, serving, spent, nobody}
 use Rattle.account_lock.specs.Views.{first_view, making, newcomer, longer, joined}
-use Rattle.account_lock.specs.Order.{At, Exists, out, tickets_of, held_of, own_of, is_live, more, HasTicket, InLine, Knows, Fits, Apart, HasSeen, IsFirst, IsServing, Home, Kept}
+use Rattle.account_lock.specs.Order.{At, Exists, out, tickets_of, held_of, own_of, is_live, more, HasTicket, InLine, Knows, Fits, Apart, HasSeen, IsFirst, IsServing, Home, KeepsOrder}
 use Rattle.account_lock.specs.Closing.{Leaves}
 use Rattle.account_lock.proofs.Seats.{at_here, at_there, same_view, each_set, each_end, pairs_set, pairs_end, exists_set, exists_end, total_set, total_end, total_part, total_parts, total_alone}
 use Rattle.account_lock.proofs.Keeps.{knows_at, fits_made, turned, home_set, at_home}
@@ -109,7 +109,7 @@ no_own start log limit made pending v spent z f = f.1
 
 module _ {A : Type 0} (origin : A → Origin) (history : A → List Entry) where
   abbrev Rule : ℕ → State (Option A) View → Type 0
-  Rule = Kept origin history
+  Rule = KeepsOrder origin history
 
   abbrev St : Type 0
   St = State (Option A) View

@@ -14,7 +14,7 @@ use Rattle.account_core.specs.Histories.{Origin, Begins, EachBegins, calls_by, C
 use Rattle.account_core.proofs.Histories.{begins_itself, begins_along, each_begins_along, calls_by_own, calls_by_other, callers_below_more}
 use Rattle.account_lock.specs.Known.{View, Stage, resting, waiting, serving, spent}
 use Rattle.account_lock.specs.Views.{with_ticket, with_turn, at_rest, with_entry, having_made}
-use Rattle.account_lock.specs.Order.{At, Exists, out, tickets_of, held_of, own_of, is_live, more, HasTicket, InLine, Knows, Fits, Apart, HasSeen, IsFirst, IsServing, Home, Kept}
+use Rattle.account_lock.specs.Order.{At, Exists, out, tickets_of, held_of, own_of, is_live, more, HasTicket, InLine, Knows, Fits, Apart, HasSeen, IsFirst, IsServing, Home, KeepsOrder}
 use Rattle.account_lock.specs.Steps.{drew, looked, served_next, committed, enlisted, bounded}
 use Rattle.account_lock.proofs.Seats.{at_here, same_view, each_set, pairs_set, exists_set, total_set, total_part, total_below}
 
@@ -151,7 +151,7 @@ module _ (start : Origin) (log : List Entry) (limit made : ℕ) (pending : Bool)
 
 module _ {A : Type 0} (origin : A → Origin) (history : A → List Entry) where
   abbrev pub Rule : ℕ → State (Option A) View → Type 0
-  Rule = Kept origin history
+  Rule = KeepsOrder origin history
 
   abbrev St : Type 0
   St = State (Option A) View

@@ -106,7 +106,7 @@ module _ {A : Type 0} (origin : A → Origin) (history : A → List Entry) where
       × ((seat : ℕ) (v : View) → At views seat v → v.stage ≢ serving))
       ⊎ ((homes ≡ none ∷ []) × Exists IsServing views)
 
-  pub record Kept (limit : ℕ) (s : State (Option A) View) : Type 0 where
+  pub record KeepsOrder (limit : ℕ) (s : State (Option A) View) : Type 0 where
     pub drawn : ℕ
     pub served : ℕ
     pub log : List Entry

@@ -1,5 +1,5 @@
 // The rule of a lock's table, and its kinds of step.
-ghost use Rattle.account_lock.specs.Order.{Kept};
+ghost use Rattle.account_lock.specs.Order.{KeepsOrder};
 ghost use Rattle.account_lock.specs.Views.{first_view, making, newcomer, joined};
 ghost use Rattle.account_lock.specs.Known.{nobody};
 ghost use Rattle.account_lock.specs.Steps.{drew, looked, served_next, committed, enlisted, bounded};
@@ -13,7 +13,7 @@ use std::snapshot::Snapshot;
 pub struct Order;
 
 impl<V: Booked> TableRule<Option<V>, View, (Snapshot<V>, u32)> for Order {
-    ghost holds = { λ about. Kept V.origin V.history about.1 };
+    ghost holds = { λ about. KeepsOrder V.origin V.history about.1 };
 
     ghost first = { λ about. first_view (V.origin about.0.value) about.1 };
 }

@@ -8,7 +8,7 @@ use Rattle.std.proofs.lemmas.List.FromFn.{map-range_with_len_more}
 use Rattle.std.proofs.lemmas.List.Sums.{sum_by-append}
 use Rattle.quota_units.specs.Limiting.{LimitNumbers}
 use Rattle.keeper.specs.Files.{Files, Row, listed, ledger_at}
-use Rattle.keeper.specs.Calls.{Told, Changes, Lists, Reads}
+use Rattle.keeper.specs.Calls.{Told, Changes, Lists, ReadsLedger}
 use Rattle.keeper.specs.declared.rows.FileRow.{FileRow}
 use Rattle.keeper.proofs.Changing.{changes_then}
 use Rattle.admission.specs.Fitting.{limits_at}
@@ -102,6 +102,6 @@ reads_once k own limits limits' here told_here found at tells pushed x y z so_fa
 
 pub reads_more : {A : Type 0} (E : Type 0) (k : ℕ) (own limits limits' : List LimitNumbers) (here told_here : LimitNumbers) (found : Option (Vec ℕ A)) → k < length own → here ≡ get_or own k here
     → told_here ≡ limits_of_ledger (option_map (λ b. b.items) found) here → limits' ≡ limits ++ told_here ∷ [] → (a b c : Option Told)
-    → Changes (ReadsSome k own limits) a b → Changes (Reads {A = A} {E = E} k (Ok found)) b c → Changes (ReadsSome (k + 1) own limits') a c
+    → Changes (ReadsSome k own limits) a b → Changes (ReadsLedger {A = A} {E = E} k (Ok found)) b c → Changes (ReadsSome (k + 1) own limits') a c
 reads_more E k own limits limits' here told_here found inside at tells pushed =
     changes_then _ _ _ (reads_once k own limits limits' here told_here found (get_or_read own k here inside at (record { octets = None; count = None })) tells pushed)

@@ -6,7 +6,7 @@ use Rattle.std.proofs.lemmas.Bool.Decides.{nat_tests}
 use Rattle.std.proofs.lemmas.Slice.Eq.{bytes_eq-Decides}
 use Rattle.quota_roots.specs.Setups.{are_different}
 use Rattle.accounts_file.specs.declared.entry.AccountEntry.{AccountEntry}
-use Rattle.accounts_file.specs.Hosts.{AreAccounts, AreToldApart, is_secret_of}
+use Rattle.accounts_file.specs.Hosts.{AreAccounts, HaveDifferentLogins, is_secret_of}
 
 or_later : (b c : Bool) → c ≡ true → (b || c) ≡ true
 or_later true c h = refl
@@ -67,8 +67,8 @@ secret_is : (kept given : List ℕ) → is_secret_of kept given ≡ true → kep
 secret_is kept given h = (bytes_eq-Decides kept given).0 (and_parts (not (nat_eq (length kept) 0)) (bytes_eq kept given) h).1
 
 -- the accounts of a table are told apart
-pub told_apart : (accounts : List AccountEntry) → AreAccounts accounts → AreToldApart accounts
-told_apart accounts are =
+pub different_logins : (accounts : List AccountEntry) → AreAccounts accounts → HaveDifferentLogins accounts
+different_logins accounts are =
     record {
       by_name = λ at entry read.
           only (λ e. e.name) (λ e. bytes_eq e.name entry.name) entry.name (λ e is. (bytes_eq-Decides e.name entry.name).0 is) accounts at entry are.different.names read (same entry.name);

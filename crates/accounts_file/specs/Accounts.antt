@@ -77,7 +77,7 @@ abbrev pub accounts_of : Members → List AccountEntry
 accounts_of file = map account_in (items_at Account file)
 
 -- what is known of an account before its mailboxes and its roots are compared
-pub record IsRight (account : AccountEntry) : Type 0 where
+pub record IsDrafted (account : AccountEntry) : Type 0 where
   pub roots : AreRootsRead account.setup.roots account.setup.limits
   pub inbox : slice_get account.setup.mailboxes 0 ≡ Some (codes "INBOX")
   pub few : length account.setup.mailboxes ≤ 256

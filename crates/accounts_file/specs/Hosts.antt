@@ -47,7 +47,7 @@ holder accounts token = position (λ account. is_secret_of account.token token) 
 
 -- each account is found by its own name, by its name and password unless the password is empty, and
 -- by its token unless the token is empty
-pub record AreToldApart (accounts : List AccountEntry) : Type 0 where
+pub record HaveDifferentLogins (accounts : List AccountEntry) : Type 0 where
   pub by_name : (account : ℕ) (entry : AccountEntry) → slice_get accounts account ≡ Some entry
       → named accounts entry.name ≡ Some account
   pub by_password : (account : ℕ) (entry : AccountEntry) → slice_get accounts account ≡ Some entry

@@ -35,8 +35,8 @@ double None = None
 double (Some name) = Some (Double name)
 
 -- what was read is this value, and nothing is refused; or this is the refusal; or memory ran out
-abbrev pub Reads : {A : Type 0} → Option AccountsError → A → Result A AccountsError → Type 0
-Reads refusal value result = MatchResult result (λ read. (refusal ≡ None)
+abbrev pub IsRead : {A : Type 0} → Option AccountsError → A → Result A AccountsError → Type 0
+IsRead refusal value result = MatchResult result (λ read. (refusal ≡ None)
     × (read ≡ value)) (λ e. (e ≡ NoMemory) ⊎ (refusal ≡ Some e))
 
 -- nothing is refused; or this is the refusal; or memory ran out

@@ -3,7 +3,7 @@ ghost use Rattle.std.specs.List.{list_all};
 ghost use Rattle.quota_roots.specs.Setups.{is_mailbox};
 ghost use Rattle.toml.specs.View.{view, table_view};
 ghost use Rattle.accounts_file.specs.Accounts.{account_in, account_of, account_refusal, accounts_of, accounts_refusal, mailboxes_at, mailboxes_refusal, refusal_in, with_inbox, without_first};
-ghost use Rattle.accounts_file.specs.Refusals.{first_in, Reads};
+ghost use Rattle.accounts_file.specs.Refusals.{first_in, IsRead};
 
 use crate::draft::Draft;
 use crate::error::AccountsError;
@@ -53,7 +53,7 @@ fn index_of_inbox(names: &[Name]) -> Option<usize>
 /// The mailboxes of an account, INBOX first.
 #[tactic(auto, using(crate::proofs::RuleLemmas::read_mailboxes))]
 fn mailboxes_at(alloc: Global, account: &Table) -> Result<NameList, AccountsError>
-    ensures reads { Reads (mailboxes_refusal (table_view account.now))
+    ensures reads { IsRead (mailboxes_refusal (table_view account.now))
         (mailboxes_at (table_view account.now)) result }
     ensures inbox { IfOk result (λ mailboxes. slice_get mailboxes 0 ≡ Some (codes "INBOX")) }
     ensures few { IfOk result (λ mailboxes. length mailboxes ≤ 256) }
@@ -71,7 +71,7 @@ fn mailboxes_at(alloc: Global, account: &Table) -> Result<NameList, AccountsErro
 
 /// The account of a table.
 fn read_account(alloc: Global, account: &Table) -> Result<Draft, AccountsError>
-    ensures { Reads (account_refusal (table_view account.now))
+    ensures { IsRead (account_refusal (table_view account.now))
         (account_of (table_view account.now)) result }
 {
     let name = needed_text(alloc, account, Key::AccountName)?;
@@ -97,7 +97,7 @@ fn read_account(alloc: Global, account: &Table) -> Result<Draft, AccountsError>
 
 /// The account of a value of the list.
 fn read_value(alloc: Global, value: &Value) -> Result<Draft, AccountsError>
-    ensures { Reads (refusal_in (view value.now)) (account_in (view value.now)) result }
+    ensures { IsRead (refusal_in (view value.now)) (account_in (view value.now)) result }
 {
     match value.as_table() {
         None => Err(AccountsError::BadValue { key: Key::Account }),

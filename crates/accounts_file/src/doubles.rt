@@ -5,7 +5,7 @@ ghost use Rattle.quota_roots.specs.RootLists.{first_double};
 ghost use Rattle.quota_roots.specs.Setups.{IsSound};
 ghost use Rattle.accounts_file.specs.Doubles.{all_recipients, doubles_refusal, has_same, is_inserted, own_double, repeated, repeated_in_any_case, repeated_root};
 ghost use Rattle.accounts_file.specs.Hosts.{AreDifferent};
-ghost use Rattle.accounts_file.specs.Refusals.{double, first_in, Checks, Reads};
+ghost use Rattle.accounts_file.specs.Refusals.{double, first_in, Checks, IsRead};
 
 use crate::draft::Draft;
 use crate::entry::AccountEntry;
@@ -122,7 +122,7 @@ fn check_roots(alloc: Global, specs: &[RootSpec]) -> Result<(), AccountsError>
 
 /// The account, if no mailbox occurs twice in it and no two of its roots share a name.
 fn entry_of(alloc: Global, draft: Draft) -> Result<AccountEntry, AccountsError>
-    ensures reads { Reads (own_double draft) draft result }
+    ensures reads { IsRead (own_double draft) draft result }
     ensures sound { IfOk result (λ entry. IsSound entry.setup) }
 {
     check_names(alloc, draft.mailboxes.as_slice())?;

@@ -21,7 +21,7 @@ impl Model for Draft {
 
     ghost Value = { AccountEntry };
 
-    ghost use Rattle.accounts_file.specs.Accounts.{IsRight};
+    ghost use Rattle.accounts_file.specs.Accounts.{IsDrafted};
 
     ghost view = { λ d. record {
       name = d.name;
@@ -39,7 +39,7 @@ impl Model for Draft {
       };
     } };
 
-    ghost invariant = { λ d. IsRight (record {
+    ghost invariant = { λ d. IsDrafted (record {
       name = d.name;
       password = d.password;
       token =

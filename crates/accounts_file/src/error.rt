@@ -17,7 +17,7 @@ pub enum AccountsError {
     BadValue { key: Key },
     /// A name occurs twice: the name of an account, a token, a recipient, a mailbox of one account,
     /// or the name of a quota root of one account.
-    #[error("a name stands twice")]
+    #[error("a name occurs twice")]
     Double { name: Name },
     /// A list is too long.
     #[error("too many {key}")]

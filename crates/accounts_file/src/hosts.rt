@@ -2,7 +2,7 @@ ghost use Rattle.std.specs.Prelude.{◌≡◌, ◌<◌, ◌&&◌, bytes_eq, leng
 ghost use Rattle.std.specs.List.{list_any};
 ghost use Rattle.std.specs.Str.{str_eq_ignore_ascii_case};
 ghost use Rattle.quota_roots.specs.Setups.{IsSound};
-ghost use Rattle.accounts_file.specs.Hosts.{AreAccounts, AreToldApart, holder, is_secret_of, logged_in, named, port_of, receiver};
+ghost use Rattle.accounts_file.specs.Hosts.{AreAccounts, HaveDifferentLogins, holder, is_secret_of, logged_in, named, port_of, receiver};
 
 use crate::entry::AccountEntry;
 use crate::settings::Settings;
@@ -78,8 +78,10 @@ impl HostTable {
 
     /// A law: each account is found by its own name, by its name and password unless the password
     /// is empty, and by its token unless the token is empty.
-    pub fn tells_accounts_apart(&self)
-        ensures { AreToldApart self.now.accounts }
+    ///
+    /// It exists for proofs alone.
+    pub fn show_different_logins(&self)
+        ensures { HaveDifferentLogins self.now.accounts }
     {
         let _count = self.count();
     }

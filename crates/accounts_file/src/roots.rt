@@ -2,7 +2,7 @@ ghost use Rattle.std.specs.Prelude.{◌≡◌, ◌⊎◌, map, true, None, Some,
 ghost use Rattle.quota_roots.specs.RootLists.{first_bad_name, is_prefix_at, is_root_at, AreRoots};
 ghost use Rattle.toml.specs.Data.{as_table};
 ghost use Rattle.toml.specs.View.{view, table_view};
-ghost use Rattle.accounts_file.specs.Refusals.{first_in, Reads};
+ghost use Rattle.accounts_file.specs.Refusals.{first_in, IsRead};
 ghost use Rattle.accounts_file.specs.RootTables.{all_limits, limits_of, limits_refusal, members_in, prefix_refusal, root_refusal, root_refusals, root_tables, root_value_refusal, roots_refusal, spec_of, specs_of, AreRootsRead};
 ghost use Rattle.accounts_file.specs.Values.{text_at};
 
@@ -25,7 +25,7 @@ pub(crate) struct RootsRead {
 /// The prefix of the root of this number.
 #[tactic(auto, using(crate::proofs::RuleLemmas::read_prefix, crate::proofs::RuleLemmas::some_again))]
 fn prefix_at(alloc: Global, members: &Table, root: usize) -> Result<Option<Name>, AccountsError>
-    ensures reads { Reads (prefix_refusal root (table_view members.now))
+    ensures reads { IsRead (prefix_refusal root (table_view members.now))
         (text_at Key.Prefix (table_view members.now)) result }
     ensures right { IfOk result (λ prefix. is_prefix_at root prefix ≡ true) }
 {
@@ -38,7 +38,7 @@ fn prefix_at(alloc: Global, members: &Table, root: usize) -> Result<Option<Name>
 
 /// The limits of a root: storage in units of 1024 octets, and messages.
 fn limits_at(members: &Table) -> Result<Limits, AccountsError>
-    ensures { Reads (limits_refusal (table_view members.now))
+    ensures { IsRead (limits_refusal (table_view members.now))
         (limits_of (table_view members.now)) result }
 {
     let storage = number_at(members, Key::Storage)?;
@@ -57,7 +57,7 @@ fn read_root(
     root: usize,
     members: &Table,
 ) -> Result<(RootSpec, Limits), AccountsError>
-    ensures reads { Reads (root_refusal root (table_view members.now))
+    ensures reads { IsRead (root_refusal root (table_view members.now))
         (spec_of (table_view members.now), limits_of (table_view members.now)) result }
     ensures right { IfOk result (λ read. is_root_at root read.0 ≡ true) }
 {
@@ -73,7 +73,7 @@ fn read_value(
     root: usize,
     value: &Value,
 ) -> Result<(RootSpec, Limits), AccountsError>
-    ensures reads { Reads (root_value_refusal root (as_table (view value.now)))
+    ensures reads { IsRead (root_value_refusal root (as_table (view value.now)))
         (spec_of (members_in (view value.now)), limits_of (members_in (view value.now))) result }
     ensures right { IfOk result (λ read. is_root_at root read.0 ≡ true) }
 {

@@ -1,7 +1,7 @@
 ghost use Rattle.std.specs.Prelude.{◌≡◌};
 ghost use Rattle.toml.specs.View.{table_view};
 ghost use Rattle.accounts_file.specs.Files.{settings_of, settings_refusal};
-ghost use Rattle.accounts_file.specs.Refusals.{Reads};
+ghost use Rattle.accounts_file.specs.Refusals.{IsRead};
 ghost use Rattle.accounts_file.specs.Rules.{most};
 ghost use Rattle.accounts_file.specs.Values.{number_at, number_refusal};
 
@@ -25,7 +25,7 @@ pub struct Settings {
 
 /// The ports and the number of workers of a file.
 pub(crate) fn read_settings(file: &Table) -> Result<Settings, AccountsError>
-    ensures { Reads (settings_refusal (table_view file.now))
+    ensures { IsRead (settings_refusal (table_view file.now))
         (settings_of (table_view file.now)) result }
 {
     let imap = port_at(file, Key::Imap)?;
@@ -43,7 +43,7 @@ pub(crate) fn read_settings(file: &Table) -> Result<Settings, AccountsError>
 /// The port at the key.
 fn port_at(file: &Table, key: Key) -> Result<Option<u16>, AccountsError>
     requires { most key ≡ 65535 }
-    ensures { Reads (number_refusal key (table_view file.now))
+    ensures { IsRead (number_refusal key (table_view file.now))
         (number_at key (table_view file.now)) result }
 {
     match number_at(file, key)? {

@@ -3,7 +3,7 @@ ghost use Rattle.std.specs.Option.{option_map};
 ghost use Rattle.toml.specs.Data.{get_member};
 ghost use Rattle.toml.specs.View.{view, table_view};
 ghost use Rattle.accounts_file.specs.Keys.{value_at};
-ghost use Rattle.accounts_file.specs.Refusals.{judged, Reads};
+ghost use Rattle.accounts_file.specs.Refusals.{judged, IsRead};
 ghost use Rattle.accounts_file.specs.Rules.{most};
 ghost use Rattle.accounts_file.specs.Values.{flag_at, flag_refusal, needed_text_refusal, number_at, number_of, number_refusal, text_at, text_of, text_or_empty, text_refusal};
 
@@ -42,7 +42,7 @@ fn number_of(key: Key, value: &Value) -> Option<u64>
 
 /// The number at the key, which is at least 1.
 pub(crate) fn number_at(table: &Table, key: Key) -> Result<Option<u64>, AccountsError>
-    ensures reads { Reads (number_refusal key (table_view table.now))
+    ensures reads { IsRead (number_refusal key (table_view table.now))
         (number_at key (table_view table.now)) result }
     ensures range { IfOk result (λ number. IfSome number (λ n. (1 ≤ n) × (n ≤ most key))) }
 {
@@ -57,7 +57,7 @@ pub(crate) fn number_at(table: &Table, key: Key) -> Result<Option<u64>, Accounts
 
 /// Whether the flag at the key is set.
 pub(crate) fn flag_at(table: &Table, key: Key) -> Result<bool, AccountsError>
-    ensures { Reads (flag_refusal key (table_view table.now))
+    ensures { IsRead (flag_refusal key (table_view table.now))
         (flag_at key (table_view table.now)) result }
 {
     match value_at(table, key) {
@@ -71,7 +71,7 @@ pub(crate) fn flag_at(table: &Table, key: Key) -> Result<bool, AccountsError>
 
 /// The text that the value is, as it is kept.
 pub(crate) fn text_of(alloc: Global, key: Key, value: &Value) -> Result<Name, AccountsError>
-    ensures { Reads (judged key (is_some (text_of key (view value.now))))
+    ensures { IsRead (judged key (is_some (text_of key (view value.now))))
         (text_or_empty key (view value.now)) result }
 {
     match value.as_str() {
@@ -83,7 +83,7 @@ pub(crate) fn text_of(alloc: Global, key: Key, value: &Value) -> Result<Name, Ac
 /// The name of these bytes, which are short enough for one.
 pub(crate) fn name_of(alloc: Global, bytes: &[u8]) -> Result<Name, AccountsError>
     requires { length bytes.now ≤ 255 }
-    ensures { Reads None bytes.now result }
+    ensures { IsRead None bytes.now result }
 {
     match Name::of(alloc, bytes) {
         Ok(name) => Ok(name),
@@ -93,7 +93,7 @@ pub(crate) fn name_of(alloc: Global, bytes: &[u8]) -> Result<Name, AccountsError
 
 /// The text at the key, which must be there.
 pub(crate) fn needed_text(alloc: Global, table: &Table, key: Key) -> Result<Name, AccountsError>
-    ensures { Reads (needed_text_refusal key (table_view table.now))
+    ensures { IsRead (needed_text_refusal key (table_view table.now))
         (unwrap_or (text_at key (table_view table.now)) []) result }
 {
     match value_at(table, key) {
@@ -104,7 +104,7 @@ pub(crate) fn needed_text(alloc: Global, table: &Table, key: Key) -> Result<Name
 
 /// The text at the key, or the empty text if the key is not there.
 pub(crate) fn text_or_empty(alloc: Global, table: &Table, key: Key) -> Result<Name, AccountsError>
-    ensures { Reads (text_refusal key (table_view table.now))
+    ensures { IsRead (text_refusal key (table_view table.now))
         (unwrap_or (text_at key (table_view table.now)) []) result }
 {
     match value_at(table, key) {

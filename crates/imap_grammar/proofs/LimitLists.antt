@@ -7,7 +7,7 @@ use Rattle.imap_grammar.specs.Grammar.{IsPlain, IsNumber, IsAskedLimit, IsMoreLi
 use Rattle.imap_grammar.specs.Reading.{Reading, got, wrong, short, and_then, gives, byte}
 use Rattle.imap_grammar.specs.Astrings.{plain}
 use Rattle.imap_grammar.specs.Numbers.{number}
-use Rattle.imap_grammar.specs.LimitLists.{asked_limit, next_limit, with_others, more_limits, limits_behind, some_limits, limits_closed}
+use Rattle.imap_grammar.specs.LimitLists.{asked_limit, next_limit, with_others, more_limits, limits_after, some_limits, limits_closed}
 use Rattle.imap_grammar.proofs.Takes.{Takes, Both, Byte, Nothing, takes_then, takes_weaker, takes_if, takes_byte, takes_fails, takes_gives}
 use Rattle.imap_grammar.proofs.Names.{Plain, takes_plain, plain_spelled}
 use Rattle.imap_grammar.proofs.Numbers.{takes_number, number_spelled}
@@ -72,11 +72,11 @@ takes_more : (rounds : ℕ) (text : List ℕ) → Takes More text (more_limits r
 takes_more zero text = takes_fails More text
 takes_more (suc rounds) text =
     takes_weaker (Both Next Behind) More text (more_limits (suc rounds) text) same
-    (takes_then Next Behind text (next_limit text) (with_others (more_limits rounds)) (takes_next_limit text) (behind (λ rest. takes_more rounds rest)))
+    (takes_then Next Behind text (next_limit text) (with_others (more_limits rounds)) (takes_next_limit text) (after_backslash (λ rest. takes_more rounds rest)))
   where
-    behind : ((rest : List ℕ) → Takes More rest (more_limits rounds rest)) → (next : Option AskedLimit) (rest : List ℕ) → Takes (Behind next) rest (with_others (more_limits rounds) next rest)
-    behind others None rest = ([], (refl, refl), refl)
-    behind others (Some limit) rest = others_behind limit rest (more_limits rounds rest) (others rest)
+    after_backslash : ((rest : List ℕ) → Takes More rest (more_limits rounds rest)) → (next : Option AskedLimit) (rest : List ℕ) → Takes (Behind next) rest (with_others (more_limits rounds) next rest)
+    after_backslash others None rest = ([], (refl, refl), refl)
+    after_backslash others (Some limit) rest = others_behind limit rest (more_limits rounds rest) (others rest)
 
     same : (bytes : List ℕ) (v : List AskedLimit) → Both Next Behind bytes v → More bytes v
     same bytes v (a, b, None, i, (none, is), e) = ([], subst (IsMoreLimits []) (sym is) refl, e ∙ ap (λ l. l ++ b) i ∙ ap (λ l. 41 ∷ l) none)
@@ -93,7 +93,7 @@ Closed bytes v = (list : List ℕ) × IsLimits list v × (bytes ≡ list ++ 41 �
 takes_some : (text : List ℕ) → Takes Closed text (some_limits text)
 takes_some text =
     takes_weaker (Both IsAskedLimit (λ limit. Behind (Some limit))) Closed text (some_limits text) same
-    (takes_then IsAskedLimit (λ limit. Behind (Some limit)) text (asked_limit text) _ (takes_asked text) (λ limit rest. others_behind limit rest (limits_behind rest) (takes_more (length rest) rest)))
+    (takes_then IsAskedLimit (λ limit. Behind (Some limit)) text (asked_limit text) _ (takes_asked text) (λ limit rest. others_behind limit rest (limits_after rest) (takes_more (length rest) rest)))
   where
     same : (bytes : List ℕ) (v : List AskedLimit) → Both IsAskedLimit (λ limit. Behind (Some limit)) bytes v → Closed bytes v
     same bytes v (own, b, limit, asked, (others, (list, more, j), is), e) =
@@ -151,7 +151,7 @@ closed_spelled list next [] e = ap (λ l. limits_closed (l ++ 41 ∷ next)) e
 closed_spelled list next (x ∷ xs) (own, more, asked, others, e) =
     let text : list ++ 41 ∷ next ≡ own ++ (more ++ 41 ∷ next) = ap (λ l. l ++ 41 ∷ next) e ∙ append_assoc own more (41 ∷ next) in
     ap limits_closed text ∙ begins asked
-    ∙ ap (λ r. and_then r (λ first rest. and_then (limits_behind rest) (λ others. gives (first ∷ others)))) (asked_then own more x xs next asked others)
+    ∙ ap (λ r. and_then r (λ first rest. and_then (limits_after rest) (λ others. gives (first ∷ others)))) (asked_then own more x xs next asked others)
     ∙ ap (λ r. and_then r (λ others. gives (x ∷ others))) (more_spelled xs more next (length (more ++ 41 ∷ next)) others (omega arith))
   where
     begins : IsAskedLimit own x → limits_closed (own ++ (more ++ 41 ∷ next)) ≡ some_limits (own ++ (more ++ 41 ∷ next))

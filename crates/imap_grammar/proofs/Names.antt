@@ -68,7 +68,7 @@ closed_more b bs (got v rest) other e p =
 closed_more b bs (wrong rest) other e p = tt
 closed_more b bs short other e p = tt
 
-takes_inside : (behind : Bool) (text : List ℕ) → Takes (Inside behind) text (inside behind text)
+takes_inside : (after_backslash : Bool) (text : List ℕ) → Takes (Inside after_backslash) text (inside after_backslash text)
 takes_inside true [] = tt
 takes_inside false [] = tt
 takes_inside true (b ∷ bs) = takes_if Behind (is_escaped b) (b ∷ bs) (with_first b (inside false bs)) (wrong (b ∷ bs)) (λ e. behind_more b bs (inside false bs) e (takes_inside false bs)) (λ e. tt)

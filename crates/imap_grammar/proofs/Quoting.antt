@@ -10,7 +10,7 @@ use Rattle.imap_grammar.proofs.Many.{with_front, front_first}
 module _ (text : List ℕ) where
   -- what is read, as far as an index
   abbrev pub InsideTo : List ℕ → Bool → ℕ → Type 0
-  InsideTo bytes behind i = inside false text ≡ with_front bytes (inside behind (drop i text))
+  InsideTo bytes after_backslash i = inside false text ≡ with_front bytes (inside after_backslash (drop i text))
 
   abbrev here : ℕ → ℕ
   here i = get_or text i 0
@@ -56,6 +56,6 @@ module _ (text : List ℕ) where
       ∙ ap (with_front bytes) (cond-false (eqb (here i) 34) _ _ no_quote ∙ cond-false (eqb (here i) 92) _ _ no_slash ∙ cond-false (is_quotable (here i)) _ _ e)
       ∙ ap wrong (sym (drop_more text i 0 lt))
 
-  pub inside_all : (bytes : List ℕ) (behind : Bool) (i : ℕ) → length text ≤ i → InsideTo bytes behind i → inside false text ≡ short
+  pub inside_all : (bytes : List ℕ) (after_backslash : Bool) (i : ℕ) → length text ≤ i → InsideTo bytes after_backslash i → inside false text ≡ short
   inside_all bytes true i le so_far = so_far ∙ ap (λ l. with_front bytes (inside true l)) (drop_all i text le)
   inside_all bytes false i le so_far = so_far ∙ ap (λ l. with_front bytes (inside false l)) (drop_all i text le)

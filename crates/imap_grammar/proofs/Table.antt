@@ -16,9 +16,9 @@ use Rattle.imap_grammar.specs.Grammar.{Tagged, IsTag, IsLineEnd, IsWord, IsAstri
 use Rattle.imap_grammar.specs.Reading.{Reading, got, wrong, short, Reader, and_then, gives, fails, byte, many, line_end}
 use Rattle.imap_grammar.specs.Astrings.{astring}
 use Rattle.imap_grammar.specs.LimitLists.{limits_closed}
-use Rattle.imap_grammar.specs.Commands.{word_named, word_of, checked_tag, tag_at, name_alone, name_and_limits, nothing_more, arguments_behind, is_allowed, allowed_arguments, arguments_of, command_at, all_read, command_in}
+use Rattle.imap_grammar.specs.Commands.{word_named, word_of, checked_tag, tag_at, name_alone, name_and_limits, nothing_more, arguments_after, is_allowed, allowed_arguments, arguments_of, command_at, all_read, command_in}
 use Rattle.std.proofs.lemmas.Bool.{and_parts, cond-true}
-use Rattle.imap_grammar.proofs.Takes.{Takes, Both, Run, Ends, takes_then, takes_weaker, takes_fails, takes_many, takes_ends, takes_next, behind}
+use Rattle.imap_grammar.proofs.Takes.{Takes, Both, Run, Ends, takes_then, takes_weaker, takes_fails, takes_many, takes_ends, takes_next, after_backslash}
 use Rattle.imap_grammar.proofs.Spelled.{run_spelled, end_spelled}
 use Rattle.imap_grammar.proofs.Names.{takes_astring, astring_spelled}
 use Rattle.imap_grammar.proofs.LimitLists.{Closed, takes_closed, closed_spelled}
@@ -41,7 +41,7 @@ checked false bytes rest f = takes_fails (λ own v. (own ≡ []) × (v ≡ bytes
 tag_behind : (bytes text rest : List ℕ) → list_all is_tag_byte bytes ≡ true → text ≡ bytes ++ rest → Takes Tag text (checked_tag bytes rest)
 tag_behind bytes text rest each e =
     takes_weaker (Both (λ own v. own ≡ bytes) (λ v own w. (own ≡ []) × (w ≡ bytes) × IsTag bytes)) Tag text (checked_tag bytes rest) same
-    (behind (λ own (v : List ℕ). own ≡ bytes) (λ v own w. (own ≡ []) × (w ≡ bytes) × IsTag bytes) text bytes rest bytes (checked_tag bytes rest) refl e
+    (after_backslash (λ own (v : List ℕ). own ≡ bytes) (λ v own w. (own ≡ []) × (w ≡ bytes) × IsTag bytes) text bytes rest bytes (checked_tag bytes rest) refl e
     (checked (ltb 0 (length bytes) && leb (length bytes) 64) bytes rest (tag_fits bytes each)))
   where
     same : (own v : List ℕ) → Both (λ own (v : List ℕ). own ≡ bytes) (λ v own w. (own ≡ []) × (w ≡ bytes) × IsTag bytes) own v → Tag own v
@@ -150,7 +150,7 @@ takes_limits text =
       m ∙ ap (λ x. 32 ∷ x) (l ∙ ap (λ x. a ++ x) (k ∙ ap (λ x. 32 ∷ x) (j ∙ ap (λ x. 40 ∷ x) (i ∙ ap (λ x. x ++ g) h ∙ append_assoc list (41 ∷ []) g)))),
     )
 
-takes_behind : (login : Bool) (word : Word) (letters text : List ℕ) → is_allowed word login ≡ true → IsWord (letters_of word) letters → Takes (Arguments login letters) text (arguments_behind word text)
+takes_behind : (login : Bool) (word : Word) (letters text : List ℕ) → is_allowed word login ≡ true → IsWord (letters_of word) letters → Takes (Arguments login letters) text (arguments_after word text)
 takes_behind login GetQuotaWord letters text allowed is = named (name_alone text) text (λ root. GetQuota root) (Arguments login letters) own (takes_alone text)
   where
     own : (bytes name : List ℕ) → Alone bytes name → Arguments login letters bytes (GetQuota name)
@@ -290,7 +290,7 @@ behind_tag login tag text = and_then (many is_letter text) (λ letters text2. an
 
 -- letters, and arguments that begin with no letter
 word_spelled : (login : Bool) (tag letters : List ℕ) (word : Word) (b : ℕ) (rest next : List ℕ) (command : Command) → IsWord (letters_of word) letters → list_all is_ascii_lowercase (letters_of word) ≡ true
-    → is_letter b ≡ false → is_allowed word login ≡ true → arguments_behind word (b ∷ rest) ≡ got command next
+    → is_letter b ≡ false → is_allowed word login ≡ true → arguments_after word (b ∷ rest) ≡ got command next
     → behind_tag login tag (letters ++ b ∷ rest) ≡ got (record { tag = tag; command = command }) next
 word_spelled login tag letters word b rest next command is low stops allowed e =
     ap (λ r. and_then r (λ found text2. and_then (arguments_of login (word_of found) text2) (tag_with tag))) (run_spelled is_letter letters b rest (letters_are letters (letters_of word) is low) stops)

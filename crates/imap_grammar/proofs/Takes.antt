@@ -14,15 +14,15 @@ Takes P text short = Unit {0}
 abbrev pub Both : {A B : Type 0} → (List ℕ → A → Type 0) → (A → List ℕ → B → Type 0) → List ℕ → B → Type 0
 Both {A} P Q bytes w = (a b : List ℕ) × (v : A) × P a v × Q v b w × (bytes ≡ a ++ b)
 
-pub behind : {A B : Type 0} (P : List ℕ → A → Type 0) (Q : A → List ℕ → B → Type 0) (text front rest : List ℕ) (v : A) (reading : Reading B)
+pub after_backslash : {A B : Type 0} (P : List ℕ → A → Type 0) (Q : A → List ℕ → B → Type 0) (text front rest : List ℕ) (v : A) (reading : Reading B)
     → P front v → text ≡ front ++ rest → Takes (Q v) rest reading → Takes (Both P Q) text reading
-behind P Q text front rest v (got w more) p e q = (front ++ q.0, (front, q.0, v, p, q.1, refl), e ∙ ap (λ l. front ++ l) q.2 ∙ sym (append_assoc front q.0 more))
-behind P Q text front rest v (wrong more) p e q = tt
-behind P Q text front rest v short p e q = tt
+after_backslash P Q text front rest v (got w more) p e q = (front ++ q.0, (front, q.0, v, p, q.1, refl), e ∙ ap (λ l. front ++ l) q.2 ∙ sym (append_assoc front q.0 more))
+after_backslash P Q text front rest v (wrong more) p e q = tt
+after_backslash P Q text front rest v short p e q = tt
 
 pub takes_then : {A B : Type 0} (P : List ℕ → A → Type 0) (Q : A → List ℕ → B → Type 0) (text : List ℕ) (reading : Reading A) (next : A → Reader B)
     → Takes P text reading → ((v : A) (rest : List ℕ) → Takes (Q v) rest (next v rest)) → Takes (Both P Q) text (and_then reading next)
-takes_then P Q text (got v rest) next p q = behind P Q text p.0 rest v (next v rest) p.1 p.2 (q v rest)
+takes_then P Q text (got v rest) next p q = after_backslash P Q text p.0 rest v (next v rest) p.1 p.2 (q v rest)
 takes_then P Q text (wrong rest) next p q = tt
 takes_then P Q text short next p q = tt
 

@@ -9,8 +9,8 @@ plain [] = short
 plain (b ∷ bs) = if is_astring_byte b then many is_astring_byte (b ∷ bs) else wrong (b ∷ bs)
 
 -- the name up to the closing quote; `behind` says that a \ comes before the text
-abbrev pub inside : (behind : Bool) → Reader (List ℕ)
-inside behind [] = short
+abbrev pub inside : (after_backslash : Bool) → Reader (List ℕ)
+inside after_backslash [] = short
 inside true (b ∷ bs) = if is_escaped b then with_first b (inside false bs) else wrong (b ∷ bs)
 inside false (b ∷ bs) =
     if b == 34 then got [] bs

@@ -53,11 +53,11 @@ nothing_more = do
   gives Logout
 
 -- what follows a word
-abbrev pub arguments_behind : Word → Reader Command
-arguments_behind GetQuotaWord = name_alone >>= (λ root. gives (GetQuota root))
-arguments_behind GetQuotaRootWord = name_alone >>= (λ mailbox. gives (GetQuotaRoot mailbox))
-arguments_behind SetQuotaWord = name_and_limits
-arguments_behind LogoutWord = nothing_more
+abbrev pub arguments_after : Word → Reader Command
+arguments_after GetQuotaWord = name_alone >>= (λ root. gives (GetQuota root))
+arguments_after GetQuotaRootWord = name_alone >>= (λ mailbox. gives (GetQuotaRoot mailbox))
+arguments_after SetQuotaWord = name_and_limits
+arguments_after LogoutWord = nothing_more
 
 -- without login LOGOUT alone is allowed
 abbrev pub is_allowed : Word → (login : Bool) → Bool
@@ -67,7 +67,7 @@ is_allowed GetQuotaRootWord login = login
 is_allowed SetQuotaWord login = login
 
 abbrev pub allowed_arguments : (allowed : Bool) → Word → Reader Command
-allowed_arguments true word = arguments_behind word
+allowed_arguments true word = arguments_after word
 allowed_arguments false word = fails
 
 -- what follows the word of a command that is allowed

@@ -31,13 +31,13 @@ more_limits zero = fails
 more_limits (suc rounds) = next_limit >>= with_others (more_limits rounds)
 
 -- each limit takes at least one byte, so as many rounds as bytes are enough
-abbrev pub limits_behind : Reader (List AskedLimit)
-limits_behind text = more_limits (length text) text
+abbrev pub limits_after : Reader (List AskedLimit)
+limits_after text = more_limits (length text) text
 
 abbrev pub some_limits : Reader (List AskedLimit)
 some_limits = do
   first ← asked_limit
-  others ← limits_behind
+  others ← limits_after
   gives (first ∷ others)
 
 -- any number of limits separated by spaces, and the closing parenthesis

@@ -75,20 +75,20 @@ fn inside(alloc: Global, text: &[u8]) -> Result<(Astring, &[u8]), Stop>
     ensures { Gives (λ x. x.0) (λ x. x.1.now) result (inside false text.now) }
 {
     let mut bytes = Vec::new(alloc);
-    let mut is_behind = false;
+    let mut after_backslash = false;
     for (i, b) in text.iter().enumerate() {
-        if is_behind {
+        if after_backslash {
             if !is_escaped(*b) {
                 return Err(Stop::Wrong {
                     left: text.len() - i,
                 });
             }
             bytes.push(*b)?;
-            is_behind = false;
+            after_backslash = false;
         } else if *b == b'"' {
             return Ok((Astring { bytes }, &text[i + 1..]));
         } else if *b == b'\\' {
-            is_behind = true;
+            after_backslash = true;
         } else if is_quotable(*b) {
             bytes.push(*b)?;
         } else {

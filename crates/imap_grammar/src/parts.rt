@@ -1,7 +1,7 @@
 // A command's parts, read one after another.
 ghost use Rattle.std.specs.Prelude.{◌≡◌};
 ghost use Rattle.imap_grammar.specs.Reading.{Gives, FailsAt};
-ghost use Rattle.imap_grammar.specs.Commands.{tag_at, checked_tag, word_of, name_alone, name_and_limits, arguments_behind, arguments_of, command_at};
+ghost use Rattle.imap_grammar.specs.Commands.{tag_at, checked_tag, word_of, name_alone, name_and_limits, arguments_after, arguments_of, command_at};
 
 use crate::astring::{Astring, name};
 use crate::command::Command;
@@ -68,8 +68,8 @@ fn name_and_limits(alloc: Global, text: &[u8]) -> Result<(Command, &[u8]), Stop>
 }
 
 /// What follows a command's word.
-fn arguments_behind(alloc: Global, word: Word, text: &[u8]) -> Result<(Command, &[u8]), Stop>
-    ensures { Gives (λ x. x.0) (λ x. x.1.now) result (arguments_behind word text.now) }
+fn arguments_after(alloc: Global, word: Word, text: &[u8]) -> Result<(Command, &[u8]), Stop>
+    ensures { Gives (λ x. x.0) (λ x. x.1.now) result (arguments_after word text.now) }
 {
     match word {
         Word::GetQuota => {
@@ -99,7 +99,7 @@ fn arguments<'a>(
         (arguments_of login (word_of letters.now) text.now) }
 {
     match word_of(letters) {
-        Some(word) if is_allowed(word, login) => arguments_behind(alloc, word, text),
+        Some(word) if is_allowed(word, login) => arguments_after(alloc, word, text),
         _ => Err(stopped(text)),
     }
 }

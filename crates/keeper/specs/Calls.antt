@@ -65,10 +65,10 @@ Removes mailbox name (Ok done) told told' = told'.files ≡ record told.files {
 Removes mailbox name (Err e) told told' = told'.files ≡ told.files
 
 -- read_ledger: the ledger's bytes, or none if there is no such file
-abbrev pub Reads : {A E : Type 0} → ℕ → Result (Option (Vec ℕ A)) E → Told → Told → Type 0
-Reads root (Ok found) told told' = (option_map (λ bytes. bytes.items) found
+abbrev pub ReadsLedger : {A E : Type 0} → ℕ → Result (Option (Vec ℕ A)) E → Told → Told → Type 0
+ReadsLedger root (Ok found) told told' = (option_map (λ bytes. bytes.items) found
     ≡ ledger_at told.files root) × (told'.files ≡ told.files)
-Reads root (Err e) told told' = told'.files ≡ told.files
+ReadsLedger root (Err e) told told' = told'.files ≡ told.files
 
 -- nothing but the ledger of this root has changed
 pub record OneLedger (root : ℕ) (files files' : Files) : Type 0 where

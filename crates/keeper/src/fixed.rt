@@ -1,7 +1,7 @@
 ghost use Rattle.std.specs.Prelude.{◌≡◌, ◌≢◌, ◌<◌, ◌+◌, Some, length, IfOk, IsOk, IsErr, IsErrOf};
 ghost use Rattle.quota_units.specs.Causes.{HasCause, next_count};
 ghost use Rattle.keeper.specs.Files.{ledger_bytes, no_files};
-ghost use Rattle.keeper.specs.Calls.{Changes, Spends, Lists, Puts, Renames, Removes, Reads, Appends, Installs};
+ghost use Rattle.keeper.specs.Calls.{Changes, Spends, Lists, Puts, Renames, Removes, ReadsLedger, Appends, Installs};
 ghost use Rattle.keeper.specs.Memory.{told_of_fixed};
 
 use crate::files::MemFiles;
@@ -116,7 +116,7 @@ impl Keeper for FixedKeeper {
 
     fn read_ledger(&mut self, alloc: Global, root: u32) -> Result<Option<Vec<u8>>, KeepError>
         requires { root < 4 }
-        ensures files { Changes (Reads root result) (Some (told_of_fixed self.old))
+        ensures files { Changes (ReadsLedger root result) (Some (told_of_fixed self.old))
             (Some (told_of_fixed self.new)) }
         ensures cause { HasCause (IsErrOf result KeepError.Failed) 0 0 }
         ensures due { Changes (Spends (IsErrOf result KeepError.Failed) 0 0)

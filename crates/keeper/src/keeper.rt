@@ -1,7 +1,7 @@
 ghost use Rattle.std.specs.Prelude.{◌≡◌, ◌<◌, ◌+◌, ℕ, length, false, true, Option, IfSome, IsErr, IsErrOf};
 ghost use Rattle.keeper.specs.Files.{has_row, ledger_bytes};
 ghost use Rattle.quota_units.specs.Causes.{HasCause, next_count};
-ghost use Rattle.keeper.specs.Calls.{Told, Changes, Spends, Lists, Puts, Renames, Removes, Reads, Appends, Installs};
+ghost use Rattle.keeper.specs.Calls.{Told, Changes, Spends, Lists, Puts, Renames, Removes, ReadsLedger, Appends, Installs};
 
 use crate::{FileRow, KeepError};
 use quota_units::Failed;
@@ -112,7 +112,7 @@ pub trait Keeper {
     /// `Failed` if the store failed, and `NoMemory` if memory ran out.
     fn read_ledger(&mut self, alloc: Global, root: u32) -> Result<Option<Vec<u8>>, KeepError>
         requires { root < 4 }
-        ensures files { Changes (Reads root result) (told self.old) (told self.new) }
+        ensures files { Changes (ReadsLedger root result) (told self.old) (told self.new) }
         ensures cause { HasCause (IsErrOf result KeepError.Failed) (faults self.old)
             (faults self.new) }
         ensures due { Changes (Spends (IsErrOf result KeepError.Failed) (faults self.old)

@@ -1,7 +1,7 @@
 ghost use Rattle.std.specs.Prelude.{◌≡◌, ◌<◌, ◌≤◌, ◌+◌, ◌/◌, ◌↔◌, ◌++◌, Some, length, take, vec_len, IsErr, IsErrOf, IsTrue, IfOk, OnErr};
 ghost use Rattle.quota_units.specs.Causes.{HasCause, next_count};
 ghost use Rattle.keeper.specs.Files.{four_ledgers, ledger_at, ledger_bytes};
-ghost use Rattle.keeper.specs.Calls.{Changes, Spends, Lists, Puts, Renames, Removes, Reads, Appends, Installs};
+ghost use Rattle.keeper.specs.Calls.{Changes, Spends, Lists, Puts, Renames, Removes, ReadsLedger, Appends, Installs};
 ghost use Rattle.keeper.specs.Plan.{fails_next, plan_after, new_plan};
 ghost use Rattle.keeper.specs.Memory.{told_of};
 
@@ -169,7 +169,7 @@ impl Keeper for MemKeeper {
 
     fn read_ledger(&mut self, alloc: Global, root: u32) -> Result<Option<Vec<u8>>, KeepError>
         requires { root < 4 }
-        ensures files { Changes (Reads root result) (Some (told_of self.old))
+        ensures files { Changes (ReadsLedger root result) (Some (told_of self.old))
             (Some (told_of self.new)) }
         ensures cause { HasCause
             (IsErrOf result KeepError.Failed) self.old.plan.faults self.new.plan.faults }

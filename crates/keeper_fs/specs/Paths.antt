@@ -35,5 +35,5 @@ is_path path = is_utf8 path && nat_lt 0 (length path)
 
 -- an account of this name can have a folder below this one: its name is the name of one file or
 -- folder, and this is a path
-abbrev pub has_folder : List ℕ → List ℕ → Bool
-has_folder folder account = is_file_name account && is_path folder
+abbrev pub is_account_path : List ℕ → List ℕ → Bool
+is_account_path folder account = is_file_name account && is_path folder

@@ -1,7 +1,7 @@
 ghost use Rattle.std.specs.Prelude.{◌≡◌, ◌<◌, None, true, false, IfOk, IfErr, IsErrOf};
 ghost use Rattle.std.specs.String.{string_bytes};
 ghost use Rattle.quota_units.specs.Causes.{HasCause};
-ghost use Rattle.keeper_fs.specs.Paths.{has_folder, is_path, path_in};
+ghost use Rattle.keeper_fs.specs.Paths.{is_account_path, is_path, path_in};
 ghost use Rattle.keeper_fs.specs.Real.{faults_of, append_faults_of, folder_of, lists_of, store_faults_of, store_folder_of};
 
 use crate::FsKeeper;
@@ -51,8 +51,10 @@ impl<R: Files + AllocGlobal + Clock + Clone + Drop> FsStores<R> {
 /// The path of an account's folder below this folder.
 fn account_folder(alloc: Global, folder: &[u8], account: &[u8]) -> Result<String, KeepError>
     ensures ok { IfOk result (λ path. string_bytes path ≡ path_in folder.now account.now) }
-    ensures outside { has_folder folder.now account.now ≡ false → result ≡ Err KeepError.Failed }
-    ensures only { IsErrOf result KeepError.Failed → has_folder folder.now account.now ≡ false }
+    ensures outside { is_account_path folder.now account.now ≡ false
+        → result ≡ Err KeepError.Failed }
+    ensures only { IsErrOf result KeepError.Failed
+        → is_account_path folder.now account.now ≡ false }
 {
     let account = file_name(account)?;
     let folder = path_text(folder)?;
@@ -82,8 +84,10 @@ fn open_account<R: Files + AllocGlobal + Clock + Clone + Drop>(
     ensures fresh { IfOk result (λ keeper. (faults_of keeper ≡ 0)
         × ((append_faults_of keeper ≡ 0) × (lists_of keeper ≡ 0))) }
     ensures folder { IfOk result (λ keeper. folder_of keeper ≡ path_in folder.now account.now) }
-    ensures outside { has_folder folder.now account.now ≡ false → IsErrOf result KeepError.Failed }
-    ensures only { IsErrOf result KeepError.Failed → has_folder folder.now account.now ≡ false }
+    ensures outside { is_account_path folder.now account.now ≡ false
+        → IsErrOf result KeepError.Failed }
+    ensures only { IsErrOf result KeepError.Failed
+        → is_account_path folder.now account.now ≡ false }
 {
     let folder = account_folder(alloc, folder, account)?;
     let own = rt.clone()?;
@@ -108,10 +112,10 @@ impl<R: Files + AllocGlobal + Clock + Clone + Drop> Stores for FsStores<R> {
             (λ keeper. folder_of keeper ≡ path_in (store_folder_of self.old) account.now) }
         // An opening answers `Failed` exactly if the folder's path is empty or not UTF-8, or the
         // account's name is not the name of one file or folder.
-        ensures outside { has_folder (store_folder_of self.old) account.now ≡ false
+        ensures outside { is_account_path (store_folder_of self.old) account.now ≡ false
             → IsErrOf result KeepError.Failed }
         ensures only { IsErrOf result KeepError.Failed
-            → has_folder (store_folder_of self.old) account.now ≡ false }
+            → is_account_path (store_folder_of self.old) account.now ≡ false }
         ensures folder { store_folder_of self.new ≡ store_folder_of self.old }
     {
         let opened = open_account(&self.rt, alloc, self.folder.as_slice(), account);

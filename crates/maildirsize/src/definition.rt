@@ -5,7 +5,7 @@ ghost use Rattle.maildirsize.specs.Fronts.{skip_while, begins_with};
 ghost use Rattle.maildirsize.specs.Lines.{is_in_line, first_line};
 ghost use Rattle.maildirsize.specs.Definition.{limit_of, is_in_member, member_in, member_texts_at, limits_in, wrong_text_in, definition_in, wrong_member_in, definition_of};
 
-use crate::fronts::{behind_byte, leading_digits};
+use crate::fronts::{after_byte, leading_digits};
 use quota_units::{LARGEST_LIMIT, Limits};
 
 /// A member of a definition: its letter, and the limit that its number sets.
@@ -87,7 +87,7 @@ fn leading_members(bytes: &[u8]) -> Result<(Option<u64>, Option<u64>, &[u8]), us
         };
         octets = limit_after(octets, member, b'S');
         count = limit_after(count, member, b'C');
-        match behind_byte(next, b',') {
+        match after_byte(next, b',') {
             Some(more) => rest = more,
             None => return Ok((octets, count, next)),
         }

@@ -26,7 +26,7 @@ pub(crate) fn leading_digits(bytes: &[u8]) -> (u64, &[u8])
 }
 
 /// The bytes after a leading `byte`; `None` if `bytes` does not begin with it.
-pub(crate) fn behind_byte(bytes: &[u8], byte: u8) -> Option<&[u8]>
+pub(crate) fn after_byte(bytes: &[u8], byte: u8) -> Option<&[u8]>
     ensures { MatchOption result (begins_with (λ b. b == byte) bytes.now ≡ false)
         (λ rest. bytes.now ≡ byte ∷ rest.now) }
 {

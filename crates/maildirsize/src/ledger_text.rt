@@ -9,7 +9,7 @@ ghost use Rattle.maildirsize.specs.Sums.{Pair};
 ghost use Rattle.maildirsize.specs.Reading.{Reads, SumsUp, summary, fault_of, line_fault, rest_fault};
 
 use crate::definition::{leading_definition, limits_from};
-use crate::fronts::behind_byte;
+use crate::fronts::after_byte;
 use crate::sum_line::leading_sum_line;
 use quota_units::Limits;
 use thiserror::Error;
@@ -34,13 +34,13 @@ pub struct LedgerText {
 #[derive(Clone, Copy, Debug, PartialEq, Eq, Error)]
 pub enum LedgerFault {
     /// There are 5120 bytes or more.
-    #[error("a ledger has fewer than 5120 bytes, and not {length}")]
+    #[error("a ledger has fewer than 5120 bytes, not {length}")]
     TooLong { length: usize },
     /// The first line is not a definition: its first wrong member begins at this offset.
-    #[error("no member of a definition at {at}")]
+    #[error("not a member of a definition at {at}")]
     BadDefinition { at: usize },
     /// The first line that is not a sum line. The definition is line 1.
-    #[error("line {line} is no sum line")]
+    #[error("line {line} is not a sum line")]
     BadLine { line: u32 },
     /// The text is empty, or its last line has no line feed. The last line begins at this offset.
     #[error("the line at {at} has no line feed")]
@@ -73,7 +73,7 @@ pub fn read_ledger(bytes: &[u8]) -> Result<LedgerText, LedgerFault>
         });
     }
     match leading_definition(bytes) {
-        Ok((octets, count, rest)) => match behind_byte(rest, b'\n') {
+        Ok((octets, count, rest)) => match after_byte(rest, b'\n') {
             Some(sums) => read_summed(limits_from(octets, count), bytes.len(), sums),
             None => Err(LedgerFault::Torn { at: 0 }),
         },

@@ -3,7 +3,7 @@ ghost use Rattle.std.specs.List.{take_while};
 ghost use Rattle.maildirsize.specs.Fronts.{skip_while, begins_with};
 ghost use Rattle.maildirsize.specs.SumLine.{is_space, is_in_word, magnitude_in, integer_in, sum_line_at};
 
-use crate::fronts::{CUT, behind_byte, leading_digits};
+use crate::fronts::{CUT, after_byte, leading_digits};
 
 /// The octets and the messages of the sum line that the bytes begin with, and the bytes after its
 /// line feed; `None` if the first line is not a sum line or has no line feed.
@@ -13,14 +13,14 @@ pub(crate) fn leading_sum_line(bytes: &[u8]) -> Option<(i64, i64, &[u8])>
     ensures octets { IfSome result (λ r. unsigned_abs r.0 < CUT) }
     ensures count { IfSome result (λ r. unsigned_abs r.1 < CUT) }
 {
-    let (octets, rest) = leading_integer(behind_spaces(bytes))?;
-    let (count, rest) = leading_integer(behind_spaces(rest))?;
-    let rest = behind_byte(behind_spaces(rest), b'\n')?;
+    let (octets, rest) = leading_integer(after_spaces(bytes))?;
+    let (count, rest) = leading_integer(after_spaces(rest))?;
+    let rest = after_byte(after_spaces(rest), b'\n')?;
     Some((octets, count, rest))
 }
 
 /// The bytes after the spaces that they begin with.
-fn behind_spaces(bytes: &[u8]) -> &[u8]
+fn after_spaces(bytes: &[u8]) -> &[u8]
     ensures { result.now ≡ skip_while is_space bytes.now }
 {
     let mut rest = bytes;
@@ -38,7 +38,7 @@ fn leading_integer(bytes: &[u8]) -> Option<(i64, &[u8])>
         × (r.1.now ≡ skip_while is_in_word bytes.now)) }
     ensures small { IfSome result (λ r. unsigned_abs r.0 < CUT) }
 {
-    match behind_byte(bytes, b'-') {
+    match after_byte(bytes, b'-') {
         Some(digits) => {
             let (number, rest) = leading_magnitude(digits)?;
             Some((-(number as i64), rest))

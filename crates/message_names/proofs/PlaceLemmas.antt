@@ -15,17 +15,17 @@ use Rattle.message_names.proofs.CutLemmas.{before_yes, before_no}
 digit_no_comma : (c : ℕ) → is_ascii_digit c ≡ true → is_comma c ≡ false
 digit_no_comma c h = grind (arith, nat_tests)
 
-before_ended : (behind : List ℕ) → ends_digits behind ≡ true → before_first is_comma behind ≡ []
+before_ended : (after : List ℕ) → ends_digits after ≡ true → before_first is_comma after ≡ []
 before_ended [] h = refl
 before_ended (b ∷ bytes) h = before_yes is_comma b bytes h
 
 -- digits up to a comma or to the end
-pub before_digits : (digits behind : List ℕ) → list_all is_ascii_digit digits ≡ true → ends_digits behind ≡ true
-    → before_first is_comma (digits ++ behind) ≡ digits
-before_digits [] behind h e = before_ended behind e
-before_digits (d ∷ ds) behind h e =
+pub before_digits : (digits after : List ℕ) → list_all is_ascii_digit digits ≡ true → ends_digits after ≡ true
+    → before_first is_comma (digits ++ after) ≡ digits
+before_digits [] after h e = before_ended after e
+before_digits (d ∷ ds) after h e =
     let p = and_parts (is_ascii_digit d) (list_all is_ascii_digit ds) h in
-    before_no is_comma d (ds ++ behind) (digit_no_comma d p.0) ∙ ap (λ ys. d ∷ ys) (before_digits ds behind p.1 e)
+    before_no is_comma d (ds ++ after) (digit_no_comma d p.0) ∙ ap (λ ys. d ∷ ys) (before_digits ds after p.1 e)
 
 digits_read : (digits : List ℕ) → 0 < length digits → list_all is_ascii_digit digits ≡ true
     → size_in_digits digits ≡ Some (cut (digits_value 10 digits))
@@ -34,15 +34,15 @@ digits_read digits some all =
     (and_from (nat_lt 0 (length digits)) (list_all is_ascii_digit digits) (lt-ltb 0 (length digits) some) all)
 
 -- a place names the number of its digits, cut
-pub place_read : (digits behind : List ℕ) → 0 < length digits → list_all is_ascii_digit digits ≡ true → ends_digits behind ≡ true
-    → size_at (codes ",S=" ++ (digits ++ behind)) ≡ Some (cut (digits_value 10 digits))
-place_read digits behind some all ended = ap size_in_digits (before_digits digits behind all ended) ∙ digits_read digits some all
+pub place_read : (digits after : List ℕ) → 0 < length digits → list_all is_ascii_digit digits ≡ true → ends_digits after ≡ true
+    → size_at (codes ",S=" ++ (digits ++ after)) ≡ Some (cut (digits_value 10 digits))
+place_read digits after some all ended = ap size_in_digits (before_digits digits after all ended) ∙ digits_read digits some all
 
 -- these bytes begin with a place that names this size
 record Here (bytes : List ℕ) (size : ℕ) : Type 0 where
   digits : List ℕ
-  behind : List ℕ
-  place : SizePlace bytes [] digits behind
+  after : List ℕ
+  place : SizePlace bytes [] digits after
   value : size ≡ cut (digits_value 10 digits)
 
 ended_either : (b : Bool) (n x : ℕ) (xs : List ℕ) → is_comma x ≡ b → ends_digits (drop n xs) ≡ true
@@ -82,7 +82,7 @@ here (a ∷ b ∷ c ∷ rest) n e =
     let tests = and_parts (nat_lt 0 (length digits)) (list_all is_ascii_digit digits) found.0 in
     record {
       digits = digits;
-      behind = drop (position_or_len is_comma rest) rest;
+      after = drop (position_or_len is_comma rest) rest;
       place = record {
         whole = begun a b c rest _ (eqb-true a 44 first.0) (eqb-true b 83 second.0) (eqb-true c 61 second.1)
             (sym (take-append-drop (position_or_len is_comma rest) rest));
@@ -118,8 +118,8 @@ first_behind : (x : ℕ) (xs : List ℕ) (n : ℕ) → size_at (x ∷ xs) ≡ No
 first_behind x xs n h s = record {
   before = x ∷ s.before;
   digits = s.digits;
-  behind = s.behind;
-  place = shifted x xs s.before s.digits s.behind s.place;
+  after = s.after;
+  place = shifted x xs s.before s.digits s.after s.place;
   first = later;
   value = s.value;
 }
@@ -136,7 +136,7 @@ at_front : (x : ℕ) (xs : List ℕ) (n : ℕ) → Here (x ∷ xs) n → NamesSi
 at_front x xs n h = record {
   before = [];
   digits = h.digits;
-  behind = h.behind;
+  after = h.after;
   place = h.place;
   first = λ b d e p. omega arith;
   value = h.value;
@@ -163,15 +163,15 @@ same_digits unique b d e c f g p q l =
 
 same_size : (unique : List ℕ) (m n : ℕ) → NamesSize unique m → NamesSize unique n → m ≡ n
 same_size unique m n s t =
-    let le = s.first t.before t.digits t.behind t.place in
-    let ge = t.first s.before s.digits s.behind s.place in
-    let digits = same_digits unique s.before s.digits s.behind t.before t.digits t.behind s.place t.place (omega arith) in
+    let le = s.first t.before t.digits t.after t.place in
+    let ge = t.first s.before s.digits s.after s.place in
+    let digits = same_digits unique s.before s.digits s.after t.before t.digits t.after s.place t.place (omega arith) in
     s.value ∙ ap (λ ds. cut (digits_value 10 ds)) digits ∙ sym t.value
 
 same_named : (unique : List ℕ) (s t : Option ℕ) → IsSizeNamed unique s → IsSizeNamed unique t → s ≡ t
 same_named unique None None h k = refl
-same_named unique None (Some n) h k = absurd (h k.before k.digits k.behind k.place)
-same_named unique (Some n) None h k = absurd (k h.before h.digits h.behind h.place)
+same_named unique None (Some n) h k = absurd (h k.before k.digits k.after k.place)
+same_named unique (Some n) None h k = absurd (k h.before h.digits h.after h.place)
 same_named unique (Some m) (Some n) h k = ap Some (same_size unique m n h k)
 
 -- and no other is

@@ -13,7 +13,7 @@ use Rattle.quota_units.specs.Flagging.{is_flag_letter, flag_letters, has_flag, f
 use Rattle.quota_units.proofs.DigitLemmas.{digits_all}
 use Rattle.message_names.specs.Parts.{is_colon, is_comma, unique_of, info_of}
 use Rattle.message_names.specs.Sizes.{cut, size_at, size_named, size_or}
-use Rattle.message_names.specs.FlagLetters.{behind_two, flags_of, others_of}
+use Rattle.message_names.specs.FlagLetters.{after_two, flags_of, others_of}
 use Rattle.message_names.specs.Messages.{FileMessage, message_of}
 use Rattle.message_names.specs.Written.{is_base_byte, is_base, written_flags, written_name, renamed}
 use Rattle.message_names.specs.Laws.{IsRenamed}
@@ -89,11 +89,11 @@ module _ (unique : List ℕ) (plain : has_none is_colon unique ≡ true) (flags 
       × (flags_of (unique ++ cond t (codes ":2," ++ letters_of flags) []) ≡ flags)
   flags_either true h = (
     before_at is_colon unique 58 (codes "2," ++ letters_of flags) plain refl,
-    ap (λ info. flags_among (behind_two info)) (after_at is_colon unique 58 (codes "2," ++ letters_of flags) plain refl) ∙ letters_back,
+    ap (λ info. flags_among (after_two info)) (after_at is_colon unique 58 (codes "2," ++ letters_of flags) plain refl) ∙ letters_back,
   )
   flags_either false h = (
     ap unique_of (append-nil unique) ∙ before_all is_colon unique plain,
-    ap flags_of (append-nil unique) ∙ ap (λ info. flags_among (behind_two info)) (after_all is_colon unique plain) ∙ no_flags flags h,
+    ap flags_of (append-nil unique) ∙ ap (λ info. flags_among (after_two info)) (after_all is_colon unique plain) ∙ no_flags flags h,
   )
 
   flags_read : (unique_of (unique ++ written_flags flags) ≡ unique) × (flags_of (unique ++ written_flags flags) ≡ flags)
@@ -162,11 +162,11 @@ renamed_back name flags =
     let rest = letters_of flags ++ others_of name in
     let info = after_at is_colon (unique_of name) 58 (codes "2," ++ rest) plain refl in
     let unique = before_at is_colon (unique_of name) 58 (codes "2," ++ rest) plain refl in
-    let given = ap (λ i. flags_among (behind_two i)) info ∙ flags_back flags (behind_two (info_of name)) in
+    let given = ap (λ i. flags_among (after_two i)) info ∙ flags_back flags (after_two (info_of name)) in
     record {
       unique = unique;
       flags = given;
-      others = ap (λ i. filter (λ b. not (is_flag_letter b)) (behind_two i)) info ∙ others_back flags (behind_two (info_of name));
+      others = ap (λ i. filter (λ b. not (is_flag_letter b)) (after_two i)) info ∙ others_back flags (after_two (info_of name));
       message = λ length. same_message _ _ _ _ _ _ (ap (before_first is_comma) unique)
           (ap (λ u. size_or (size_named u) length) unique) given;
     }

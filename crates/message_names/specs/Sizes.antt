@@ -17,17 +17,17 @@ size_in_digits digits =
     && list_all is_ascii_digit digits then Some (cut (digits_value 10 digits)) else None
 
 -- the bytes after `,S=`, if the bytes begin with it
-abbrev pub behind_mark : List ℕ → Option (List ℕ)
-behind_mark [] = None
-behind_mark (a ∷ []) = None
-behind_mark (a ∷ b ∷ []) = None
-behind_mark (a ∷ b ∷ c ∷ rest) = if is_comma a && (b == 83 && c == 61) then Some rest else None
+abbrev pub after_mark : List ℕ → Option (List ℕ)
+after_mark [] = None
+after_mark (a ∷ []) = None
+after_mark (a ∷ b ∷ []) = None
+after_mark (a ∷ b ∷ c ∷ rest) = if is_comma a && (b == 83 && c == 61) then Some rest else None
 
 -- the size that a place names, from the bytes that begin there: `,S=`, and then digits up to a
 -- comma or to the end
 abbrev pub size_at : List ℕ → Option ℕ
 size_at bytes =
-    option_and_then (λ rest. size_in_digits (before_first is_comma rest)) (behind_mark bytes)
+    option_and_then (λ rest. size_in_digits (before_first is_comma rest)) (after_mark bytes)
 
 -- the size at the first place that names one
 abbrev pub size_named : List ℕ → Option ℕ
@@ -41,18 +41,18 @@ ends_digits (b ∷ bytes) = is_comma b
 
 -- The unique part has a place that names a size: these bytes come before it, then come `,S=` and
 -- one or more digits, and after them nothing or a comma and more.
-pub record SizePlace (unique before digits behind : List ℕ) : Type 0 where
-  pub whole : unique ≡ before ++ (codes ",S=" ++ (digits ++ behind))
+pub record SizePlace (unique before digits after : List ℕ) : Type 0 where
+  pub whole : unique ≡ before ++ (codes ",S=" ++ (digits ++ after))
   pub some : 0 < length digits
   pub digits_only : list_all is_ascii_digit digits ≡ true
-  pub ended : ends_digits behind ≡ true
+  pub ended : ends_digits after ≡ true
 
 -- the size is that of a place, and no other place comes before it
 pub record NamesSize (unique : List ℕ) (size : ℕ) : Type 0 where
   pub before : List ℕ
   pub digits : List ℕ
-  pub behind : List ℕ
-  pub place : SizePlace unique before digits behind
+  pub after : List ℕ
+  pub place : SizePlace unique before digits after
   pub first : (b d e : List ℕ) → SizePlace unique b d e → length before ≤ length b
   pub value : size ≡ cut (digits_value 10 digits)
 

@@ -1,6 +1,6 @@
 ghost use Rattle.std.specs.Prelude.{◌≡◌, ◌==◌};
 ghost use Rattle.std.specs.List.{before_first, after_first};
-ghost use Rattle.message_names.specs.FlagLetters.{behind_two};
+ghost use Rattle.message_names.specs.FlagLetters.{after_two};
 
 use memchr::memchr;
 
@@ -17,8 +17,8 @@ pub(crate) fn around_first(separator: u8, bytes: &[u8]) -> (&[u8], &[u8])
 }
 
 /// The bytes after a leading `2,` of an info part; none if the part begins with something else.
-pub(crate) fn behind_two(info: &[u8]) -> &[u8]
-    ensures { result.now ≡ behind_two info.now }
+pub(crate) fn after_two(info: &[u8]) -> &[u8]
+    ensures { result.now ≡ after_two info.now }
 {
     match info {
         [b'2', b',', rest @ ..] => rest,

@@ -3,7 +3,7 @@ ghost use Rattle.message_names.specs.Parts.{unique_of, base_of, info_of};
 ghost use Rattle.message_names.specs.Sizes.{size_named, IsSizeNamed};
 ghost use Rattle.message_names.specs.FlagLetters.{flags_of};
 
-use crate::cuts::{around_first, behind_two};
+use crate::cuts::{after_two, around_first};
 use crate::sizes::size_in_fields;
 use quota_units::Flags;
 
@@ -44,7 +44,7 @@ pub fn parse_name(name: &[u8]) -> NameParts<'_>
         base,
         size: size_in_fields(fields),
         info,
-        flags: Flags::among(behind_two(info)),
+        flags: Flags::among(after_two(info)),
     }
 }
 

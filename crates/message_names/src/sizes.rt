@@ -23,12 +23,12 @@ pub(crate) fn size_in_fields(fields: &[u8]) -> Option<u64>
 {
     let mut rest = fields;
     while !rest.is_empty() {
-        let (field, behind) = around_first(b',', rest);
+        let (field, after) = around_first(b',', rest);
         let size = size_in_field(field);
         if size.is_some() {
             return size;
         }
-        rest = behind;
+        rest = after;
     }
     None
 }

@@ -7,7 +7,7 @@ ghost use Rattle.message_names.specs.Messages.{message_of};
 ghost use Rattle.message_names.specs.Written.{is_base, is_base_byte, written_flags, written_name, renamed};
 ghost use Rattle.message_names.specs.Laws.{IsRenamed};
 
-use crate::cuts::{around_first, behind_two};
+use crate::cuts::{after_two, around_first};
 use itoa::Buffer;
 use quota_units::{Flags, NoMemory, is_flag_letter};
 use std::alloc::{AllocError, Global};
@@ -17,7 +17,7 @@ use thiserror::Error;
 #[derive(Clone, Copy, Debug, PartialEq, Eq, Error)]
 pub enum NameFault {
     /// The base is empty, begins with `.`, or holds `,`, `:`, `/`, byte 0 or byte 10.
-    #[error("no base of a file name")]
+    #[error("not a base of a file name")]
     BadBase,
     #[error("out of memory")]
     NoMemory,
@@ -81,7 +81,7 @@ pub fn with_flags(alloc: Global, name: &[u8], flags: Flags) -> Result<Vec<u8>, N
     after.extend_from_slice(unique)?;
     after.extend_from_slice(b":2,")?;
     push_letters(&mut after, flags)?;
-    push_others(&mut after, behind_two(info))?;
+    push_others(&mut after, after_two(info))?;
     Ok(after)
 }
 

@@ -21,7 +21,7 @@ pub const MAX_ROOTS: u32 = 4;
 #[derive(Clone, Copy, Debug, PartialEq, Eq, Error)]
 pub enum RootsError {
     /// There are more than 4 roots.
-    #[error("there are at most 4 quota roots, and not {count}")]
+    #[error("there are at most 4 quota roots, not {count}")]
     TooMany { count: usize },
     /// The root at this place has a name or a prefix that it may not have, or lacks a prefix that
     /// it needs.

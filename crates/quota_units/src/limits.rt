@@ -18,7 +18,7 @@ pub enum LimitError {
     #[error("a limit is at least 1")]
     Zero,
     /// The number is above 8796093022207.
-    #[error("a limit is at most 8796093022207, and not {0}")]
+    #[error("a limit is at most 8796093022207, not {0}")]
     TooLarge(u64),
 }
 

@@ -9,7 +9,7 @@ use thiserror::Error;
 #[derive(Clone, Copy, Debug, PartialEq, Eq, Error)]
 pub enum NameError {
     /// There are more than 255 bytes.
-    #[error("a name has at most 255 bytes, and not {length}")]
+    #[error("a name has at most 255 bytes, not {length}")]
     TooLong { length: usize },
     #[error("out of memory")]
     NoMemory,

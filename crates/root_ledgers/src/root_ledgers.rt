@@ -59,6 +59,8 @@ impl RootLedgers {
 
     /// Shows contracts that there is a book for each root's limits, that there are at most four
     /// roots, and that each total is below 2^62.
+    ///
+    /// It exists for proofs alone.
     pub fn show_kept(&self)
         ensures { AreKept self.now }
     {

@@ -610,7 +610,7 @@ fn check_refused(
 }
 
 #[test]
-fn want_of_memory_alone_is_free_and_counted_where_a_call_has_no_answer_for_it(
+fn running_out_of_memory_is_a_counted_failure_if_a_call_has_no_answer_for_it(
     rt: HostRuntime,
 ) -> Result<(), Fail> {
     for (kind, answer, faults) in [
@@ -638,7 +638,7 @@ fn want_of_memory_alone_is_free_and_counted_where_a_call_has_no_answer_for_it(
 }
 
 #[test]
-fn a_name_that_is_no_text_or_a_length_that_is_not_told_fails_the_listing(
+fn a_name_that_is_not_utf8_or_a_length_that_is_not_known_fails_the_listing(
     rt: HostRuntime,
 ) -> Result<(), Fail> {
     for (names, steps, closed) in [

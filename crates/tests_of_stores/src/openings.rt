@@ -87,7 +87,7 @@ fn a_refusal_names_the_first_255_bytes_of_a_base(rt: HostRuntime) -> Result<(), 
         marked.extend_from_slice(b",S=5:2,S")?;
         let files: [(&[u8], &[u8]); 2] = [(b"Lists", &base), (b"Lists", &marked)];
         let Err(OpenError::DoubleName { name }) = open(alloc, &files, None, &[])? else {
-            return Err("a base that stands twice".into());
+            return Err("a base that occurs twice".into());
         };
         let mut shown = base.to_vec(alloc)?;
         shown.truncate(255);

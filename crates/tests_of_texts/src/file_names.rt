@@ -113,7 +113,7 @@ fn a_length_stands_in_for_a_size_and_both_are_cut(rt: HostRuntime) {
 }
 
 #[test]
-fn flags_stand_behind_a_leading_two(rt: HostRuntime) {
+fn flags_come_after_a_leading_two(rt: HostRuntime) {
     for (name, letters) in [
         (b"a:2,DFPRST".as_slice(), b"DFPRST".as_slice()),
         (b"a:2,TS", b"ST"),

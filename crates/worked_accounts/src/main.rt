@@ -6,7 +6,8 @@
 //!
 //! Lines that describe a store, before `open`:
 //!
-//! - `store`: an empty store, with the mailboxes INBOX, Lists and Trash and a journal of 1000 entries
+//! - `store`: an empty store, with the mailboxes INBOX, Lists and Trash and a journal of 1000
+//!   entries
 //! - `root NAME PREFIX OCTETS MESSAGES`: one more quota root with these limits; without such a line
 //!   the account has one root of the empty name without limits
 //! - `file MAILBOX NAME`: a message file without octets

@@ -12,12 +12,12 @@ pub loop-member-preserved : goal.loop-member-preserved
 loop-member-preserved c =
     let rest = c.loop-member.rest.now in
     let member = c.in-Some.member in
-    let behind_member = sym c.in-Some.ensures.member.1 ∙ c.in-Some-behind_byte.ensures in
+    let behind_member = sym c.in-Some.ensures.member.1 ∙ c.in-Some-after_byte.ensures in
     let lengths = length-take_while is_in_member rest in
     let shorter = ap length behind_member in
     record {
-      read = read_as c.args.bytes.now c.in-Some-behind_byte.more.now _ _ _ _ c.limit_after-octets.ensures c.limit_after-count.ensures
-          (read_more c.args.bytes.now rest c.loop-member.octets c.loop-member.count c.loop-member.invariant.read member c.in-Some-behind_byte.more.now c.in-Some.ensures.member.0 behind_member);
+      read = read_as c.args.bytes.now c.in-Some-after_byte.more.now _ _ _ _ c.limit_after-octets.ensures c.limit_after-count.ensures
+          (read_more c.args.bytes.now rest c.loop-member.octets c.loop-member.count c.loop-member.invariant.read member c.in-Some-after_byte.more.now c.in-Some.ensures.member.0 behind_member);
       octets = limit_either (member.letter == 83) member.limit c.loop-member.octets _ c.limit_after-octets.ensures c.in-Some.ensures.limit c.loop-member.invariant.octets;
       count = limit_either (member.letter == 67) member.limit c.loop-member.count _ c.limit_after-count.ensures c.in-Some.ensures.limit c.loop-member.invariant.count;
       place = omega (arith, lengths, shorter, c.loop-member.invariant.place);

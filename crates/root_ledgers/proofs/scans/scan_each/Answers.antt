@@ -17,7 +17,7 @@ loop-mailbox-preserved g c =
     elim c.if-is_counted.branch [
       | then-is_counted+in_ok-files w ↦ rw (w.keeper-is, w.scans-is) (record {
         files = files_listed roots boxes n inside box is c.loop-mailbox.scans.items w.count_files.new.scans.items (length roots) (w.count_files.ensures.count ∙ before.scans.count) w.in_ok-files.files.items
-            (rw (w.as_slice-then-is_counted-2.ensures.value, w.totals_of_files-totals.ensures.value, w.deref-then-is_counted.ensures.value) at w.count_files.ensures.with_files)
+            (rw (w.as_slice-then-is_counted-2.ensures.value, w.totals_of_files-totals.ensures.value, w.deref-then-is_counted.ensures.value) at w.count_files.ensures.counted)
             _ _ _ before.files (rw w.as_slice-then-is_counted.ensures.value at w.in_ok-files.ensures.files);
         scans = scans_kept (length roots) _ c.loop-mailbox.scans.items w.count_files.new.scans.items before.scans w.count_files.ensures.count w.count_files.ensures.same w.count_files.ensures.small;
         faults = w.in_ok-files.ensures.cause.kept (search rules) ∙ before.faults;

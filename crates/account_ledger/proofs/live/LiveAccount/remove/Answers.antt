@@ -51,4 +51,4 @@ returns-in-Some g c =
     let n = c.find_file.new.self in
     let call = Remove c.args.mailbox.now c.args.base.now in
     steps_then call [] c.remove_file.result _ l n c.remove_file.new.self (not_failed c.in_ok-find_file.was) (looks_prepare _ (needs l.roots call) l n c.find_file.ensures.looks) c.find_file.ensures.whole
-    (none_needed call l n (λ root. refl)) c.remove_file.ensures.acts (λ wanting. absurd (c.remove_file.ensures.never_wanting wanting)) tt
+    (none_needed call l n (λ root. refl)) c.remove_file.ensures.acts (λ wanting. absurd (c.remove_file.ensures.never_out_of_memory wanting)) tt

@@ -38,4 +38,4 @@ returns g c =
     let place : root_named l.roots name ≡ Some c.in-Some.root = search rules in
     let same = λ (root : ℕ). ap (λ o. is_root o root) (sym place) in
     steps_then call [] c.install_limits.result (c.usage.result ≡ Err StoreError) l m c.install_limits.new.self (not_failed c.in_ok-usage.was) (prepares_may _ (nat_eq c.in-Some.root) (needs l.roots call) l m same c.usage.ensures.prepares) c.usage.ensures.whole
-    (settled_by (nat_eq c.in-Some.root) (needs l.roots call) m same c.in_ok-usage.ensures.settled) c.install_limits.ensures.acts (λ wanting. absurd (c.install_limits.ensures.never_wanting wanting)) tt
+    (settled_by (nat_eq c.in-Some.root) (needs l.roots call) m same c.in_ok-usage.ensures.settled) c.install_limits.ensures.acts (λ wanting. absurd (c.install_limits.ensures.never_out_of_memory wanting)) tt
