@@ -1,12 +1,3 @@
-pub mod Rows
-pub mod Owning
-pub mod Lines
-pub mod Taking
-pub mod Running
+pub mod Alone
 pub mod Controlling
 pub mod LedgerChecks
-pub mod Wording
-pub mod Repeats
-pub mod Telling
-pub mod OneWay
-pub mod AnswerTexts

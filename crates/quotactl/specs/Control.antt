@@ -1,20 +1,21 @@
 -- What the program does with its arguments.
-use Rattle.std.specs.Prelude.{◌≡◌, ◌*◌, ℕ, List, [], codes, Option, Some, None}
-use Rattle.quota_units.specs.Limiting.{LimitNumbers}
+use Rattle.std.specs.Prelude.{◌≡◌, ◌*◌, ℕ, List, [], ◌∷◌, codes, Option, Some, None}
+use Rattle.std.specs.List.{All}
 use Rattle.std.specs.Io.KnownBytes.{Appends, Keeps}
+use Rattle.quota_units.specs.Limiting.{LimitNumbers}
 use Rattle.wire_io.specs.Sending.{AppendsPart}
 use Rattle.wire_io.specs.Transcript.{Answers, Transcript, transcript}
 use Rattle.wire_io.specs.declared.ends.SessionEnd.{SessionEnd}
 use Rattle.wire_io.specs.declared.ends.SessionEnd.TheVariants.{Closed, Stopped, Truncated, InputLimit, ReadFault, WriteFault, NoMemory}
-use Rattle.account_core.specs.declared.calls.Call.{Call}
 use Rattle.account_core.specs.declared.calls.Entry.{Entry}
 use Rattle.account_core.specs.History.{Answer}
-use Rattle.accounts_file.specs.Hosts.{plain_roots, plain_setup}
-use Rattle.quotactl.specs.Plain.{plain_account, plain_origin}
-use Rattle.quotactl.specs.Held.{Owned}
-use Rattle.quotactl.specs.Imap.{imap}
+use Rattle.accounts_file.specs.Hosts.{Hosts, plain_hosts, plain_roots, plain_setup}
+use Rattle.desk.specs.Asking.{DeskCall}
+use Rattle.desk.specs.Shares.{Share}
+use Rattle.imap_front.specs.Imap.{imap}
+use Rattle.imap_front.specs.Serving.{IsImapSession, input_limit}
+use Rattle.quotactl.specs.Plain.{IsUndisturbed, empty_account, plain_share}
 use Rattle.quotactl.specs.Owner.{owner}
-use Rattle.quotactl.specs.Serving.{input_limit, IsSession}
 use Rattle.quotactl.specs.declared.form.Form.TheVariants.{Session, Check}
 use Rattle.quotactl.specs.Words.{IsForm, IsNoForm}
 use Rattle.quotactl.specs.Checking.{ChecksLedger}
@@ -35,24 +36,31 @@ usage_line = codes
 abbrev pub units_of_storage : ℕ → LimitNumbers
 units_of_storage n = record { octets = Some (1024 * n); count = None }
 
--- an account with this many units of storage, before its first call
-abbrev pub fresh : ℕ → Owned
-fresh n = record { origin = plain_origin (units_of_storage n); history = [] }
+-- the table of one account with this many units of storage
+abbrev pub hosts_of : ℕ → Hosts
+hosts_of n = plain_hosts (units_of_storage n)
 
-abbrev pub fresh_owner : ℕ → Answers (List Entry) Call Answer
+-- the owner's share of that account, before its first call
+abbrev pub fresh : ℕ → List Share
+fresh n = plain_share (units_of_storage n) ∷ []
+
+abbrev pub fresh_owner : ℕ → Answers (List Entry) DeskCall Answer
 fresh_owner n = owner plain_roots (plain_setup (units_of_storage n)).journal
-    (plain_account (units_of_storage n))
+    (empty_account (units_of_storage n))
 
--- the session that an input gives, of an account with this many units of storage
+-- the session that an input gives, of the owner of that account
 abbrev pub session_of : ℕ → List ℕ → Transcript
-session_of n input = transcript imap (fresh_owner n) input_limit [] input
+session_of n input = transcript (imap (hosts_of n)) (fresh_owner n) input_limit (Some 0) [] input
 
--- what happens if an account with this many units of storage is opened and a session of it is
--- served
+-- what happens if an account with this many units of storage is opened and a session of its owner
+-- is served
 pub data Runs (left left' written written' : Option (List ℕ)) (n status : ℕ) : Type 0 where
-  -- the session was served to its end
-  served : (account' : Owned) (end : SessionEnd) → IsSession left left' written written'
-      (fresh n) account' end → status ≡ exit_status end → Runs left left' written written' n status
+  -- the session was served to its end; the owner alone asked the account, and its keeper never
+  -- failed
+  served : (shares' : List Share) (end : SessionEnd)
+      → IsImapSession (hosts_of n) (Some 0) (fresh n) shares' left left' written written' end
+      → All IsUndisturbed shares' → status ≡ exit_status end
+      → Runs left left' written written' n status
   -- memory ran out for the account
   no_account : Keeps left left' → Keeps written written' → status ≡ 6
       → Runs left left' written written' n status

@@ -1,9 +1,4 @@
 pub mod Plain
-pub mod Held
-pub mod AskedLimits
-pub mod Texts
-pub mod Imap
-pub mod Serving
 pub mod Owner
 pub mod Words
 pub mod Checking

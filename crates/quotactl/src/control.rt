@@ -3,16 +3,16 @@ ghost use Rattle.std.specs.Prelude.{◌≡◌, ◌≢◌, ◌<◌, ◌≤◌, �
 ghost use Rattle.std.specs.String.{string_bytes};
 ghost use Rattle.std.specs.Io.KnownBytes.{Appends};
 ghost use Rattle.quota_units.specs.Causes.{Rose};
-ghost use Rattle.quotactl.specs.Texts.{greeting};
+ghost use Rattle.imap_front.specs.Texts.{greeting};
 ghost use Rattle.quotactl.specs.Words.{IsForm, IsNoForm};
 ghost use Rattle.quotactl.specs.Checking.{Tells, max_checked};
 ghost use Rattle.quotactl.specs.Control.{Runs, Controls, exit_status, usage_line, session_of};
 
 use crate::check::check;
 use crate::form::{Form, form_of};
-use crate::owner::Owner;
-use crate::session::run_session;
+use crate::plain::open_desk;
 use quota_units::{Failed, Limits, NoMemory};
+use sessions::{Front, run_session};
 use std::alloc::Global;
 use wire_io::{SessionEnd, Sink, Source, send};
 
@@ -54,8 +54,12 @@ fn run<S: Source, O: Sink>(alloc: Global, units: u64, source: &mut S, sink: &mut
     let Some(limits) = Limits::new(Some(1024 * units), None) else {
         unreachable!()
     };
-    match Owner::open(alloc, limits) {
-        Ok(mut account) => status(run_session(alloc, &mut account, source, sink)),
+    match open_desk(alloc, limits) {
+        Ok((table, mut desk)) => {
+            let end = run_session(alloc, Front::ImapAs(0), &table, &mut desk, source, sink);
+            desk.show_owned();
+            status(end)
+        }
         Err(NoMemory) => NO_MEMORY,
     }
 }
@@ -89,7 +93,7 @@ pub fn control<S: Source, O: Sink>(
         → IfSome (S.left source.old) (λ input. (Rose (S.faults source.old) (S.faults source.new)
         → ⊥) → (Rose (O.faults sink.old) (O.faults sink.new) → ⊥) → result ≢ 6
         → (result ≡ exit_status (session_of n input).end) × Appends (O.written sink.old)
-        (O.written sink.new) (greeting ++ (session_of n input).text)) }
+        (O.written sink.new) (greeting (Some 0) ++ (session_of n input).text)) }
     ensures checked { IsForm (map string_bytes words.now) Form.Check
         → IfSome (S.left source.old) (λ input. (Rose (S.faults source.old) (S.faults source.new)
         → ⊥) → (Rose (O.faults sink.old) (O.faults sink.new) → ⊥) → result ≢ 6

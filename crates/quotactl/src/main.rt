@@ -1,14 +1,10 @@
 //! `quotactl`: one session of the mail quota service over standard input and output.
 #![tactic(auto)]
 
-mod asked;
 mod check;
 mod control;
 mod form;
-mod laws;
-mod owner;
-mod session;
-mod texts;
+mod plain;
 
 use control::control;
 use std::env;

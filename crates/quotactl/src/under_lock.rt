@@ -1,7 +1,7 @@
 // An account over a keeper, served under its lock.
 ghost use Rattle.std.specs.Prelude.{◌≡◌, ◌+◌, [], OnOk, IsErrOf};
 ghost use Rattle.account_lock.specs.Passes.{IsOf, view};
-ghost use Rattle.quotactl.specs.Held.{IsAsked};
+ghost use Rattle.account_core.specs.Legality.{HasBytes, MayBeAsked};
 
 use account_core::{Call, Reply, StepError};
 use account_ledger::AccountState;
@@ -24,7 +24,8 @@ fn serve<R: Wait>(
 ) -> Result<Reply, StepError>
     requires lock { IsOf lock.now pass.old }
     requires owner { (view pass.old).number ≡ 0 }
-    requires asked { IsAsked call }
+    requires asked { MayBeAsked call }
+    requires bytes { HasBytes call [] }
     ensures lock { IsOf lock.now pass.new }
     ensures owner { (view pass.new).number ≡ 0 }
     ensures own { OnOk result ((view pass.new).own ≡ (view pass.old).own + 1) }

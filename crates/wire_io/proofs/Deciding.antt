@@ -256,10 +256,10 @@ module _ {State Request Call Answer : Type 0} (p : Protocol State Request Call A
       (behind_own at place x.bytes (bytes_of ex) place_is) (fits_behind at x.bytes (bytes_of ex) rest fits) moved due_ends (behind_own at due_place x.bytes (spelled_bytes xs) due_there) (sym same.2) quiet
 
   -- the whole session and the whole input end alike
-  pub end_decided : IsFilled p → (input taken left : List ℕ) (log : List (Call × Answer)) (written : List ℕ) (end due : SessionEnd) → input ≡ taken ++ left
-      → Session p limit (left ≡ []) taken log written end → InputEnds p limit input due → IsQuiet end → (end ≡ due) ⊎ (end ≡ NoMemory)
-  end_decided filled input taken left log written end due parts (inl s) due_is quiet =
-      ends_alike filled p.start s.state due_is.state 0 (length (bytes_of s.exchanges)) (length (spelled_bytes due_is.xs)) s.exchanges due_is.xs s.rest left due_is.bytes s.last_log s.last_text end due
+  pub end_decided : IsFilled p → (greeting : List ℕ) (start : State) (input taken left : List ℕ) (log : List (Call × Answer)) (written : List ℕ) (end due : SessionEnd) → input ≡ taken ++ left
+      → Session p greeting start limit (left ≡ []) taken log written end → InputEnds p start limit input due → IsQuiet end → (end ≡ due) ⊎ (end ≡ NoMemory)
+  end_decided filled greeting start input taken left log written end due parts (inl s) due_is quiet =
+      ends_alike filled start s.state due_is.state 0 (length (bytes_of s.exchanges)) (length (spelled_bytes due_is.xs)) s.exchanges due_is.xs s.rest left due_is.bytes s.last_log s.last_text end due
       s.outlived s.ends (omega arith) (subst (λ l. 0 + length l ≤ limit) s.taken_is (omega (arith, s.within))) due_is.outlived due_is.ends (omega arith)
       (ap (λ l. l ++ left) (sym s.taken_is) ∙ sym parts ∙ due_is.input_is) quiet
-  end_decided filled input taken left log written end due parts (inr s) due_is quiet = absurd (quiet.1 s.0)
+  end_decided filled greeting start input taken left log written end due parts (inr s) due_is quiet = absurd (quiet.1 s.0)

@@ -127,9 +127,9 @@ module _ {State Request Call Answer : Type 0} (p : Protocol State Request Call A
   ends_from (suc most) state at bytes few within =
       found_first state at bytes within (λ s n t lt le. ends_from most s n t (omega (arith, lt, few)) le) (first_request p state [] bytes) (find_is p state bytes)
 
-  pub has_end : (input : List ℕ) → (due : SessionEnd) × InputEnds p limit input due
-  has_end input =
-      let found = ends_from (length input) p.start 0 input (omega arith) (omega arith) in
+  pub has_end : (start : State) (input : List ℕ) → (due : SessionEnd) × InputEnds p start limit input due
+  has_end start input =
+      let found = ends_from (length input) start 0 input (omega arith) (omega arith) in
       let place : 0 + length (spelled_bytes found.xs) ≡ length (spelled_bytes found.xs) = omega arith in (
         found.due,
         record {

@@ -7,3 +7,5 @@ pub mod LineLemmas
 pub mod PieceLemmas
 pub mod SendLemmas
 pub mod Endings
+pub mod Requests
+pub mod Serving

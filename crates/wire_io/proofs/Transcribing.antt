@@ -159,11 +159,11 @@ module _ {State Request Call Answer World : Type 0} (p : Protocol State Request 
   ends_weaker P Q f state at rest log text WriteFault h = h
   ends_weaker P Q f state at rest log text NoMemory h = h
 
-  pub session_decided : IsFilled p → (input taken left : List ℕ) (log : List (Call × Answer)) (written : List ℕ) (end : SessionEnd) (world last : World) → input ≡ taken ++ left
-      → Session p limit (left ≡ []) taken log written end → IsAnswered by world log last → IsQuiet end → end ≢ NoMemory
-      → (written ≡ p.greeting ++ (transcript p by limit world input).text) × (end ≡ (transcript p by limit world input).end)
-  session_decided filled input taken left log written end world last parts (inr s) answered quiet some = absurd (quiet.1 s.0)
-  session_decided filled input taken left log written end world last parts (inl s) answered quiet some =
+  pub session_decided : IsFilled p → (greeting : List ℕ) (start : State) (input taken left : List ℕ) (log : List (Call × Answer)) (written : List ℕ) (end : SessionEnd) (world last : World) → input ≡ taken ++ left
+      → Session p greeting start limit (left ≡ []) taken log written end → IsAnswered by world log last → IsQuiet end → end ≢ NoMemory
+      → (written ≡ greeting ++ (transcript p by limit start world input).text) × (end ≡ (transcript p by limit start world input).end)
+  session_decided filled greeting start input taken left log written end world last parts (inr s) answered quiet some = absurd (quiet.1 s.0)
+  session_decided filled greeting start input taken left log written end world last parts (inl s) answered quiet some =
       let few = limit - length taken in
       let shown = take few left in
       let seen : take limit input ≡ taken ++ shown = ap (take limit) parts ∙ take_over limit taken left s.within in
@@ -171,7 +171,7 @@ module _ {State Request Call Answer World : Type 0} (p : Protocol State Request 
       let ends = ends_weaker (left ≡ []) (shown ≡ []) (λ none. ap (take few) none ∙ take-nil few) s.state (length (bytes_of s.exchanges)) s.rest s.last_log s.last_text end s.ends in
       let sized : length (bytes_of s.exchanges ++ (s.rest ++ shown)) ≡ length (take limit input) = ap length (sym text) in
       let short : length (take limit input) ≡ min limit (length input) = length-take limit input in
-      let is = transcribed filled (suc (length input)) p.start s.state world last 0 (length (bytes_of s.exchanges)) s.exchanges s.rest shown s.last_log s.last_text end s.outlived ends (omega arith)
+      let is = transcribed filled (suc (length input)) start s.state world last 0 (length (bytes_of s.exchanges)) s.exchanges s.rest shown s.last_log s.last_text end s.outlived ends (omega arith)
       (omega (arith, sized, short)) (omega (arith, sized, short)) (subst (λ l. IsAnswered by world l last) s.log_is answered) quiet some in
-      let whole : transcript p by limit world input ≡ record { text = text_of s.exchanges ++ s.last_text; end = end } = ap (transcript_from p by limit (suc (length input)) p.start world 0) text ∙ is in
-      (s.written_is ∙ ap (λ t. p.greeting ++ t) (sym (ap (λ (t : Transcript). t.text) whole)), sym (ap (λ (t : Transcript). t.end) whole))
+      let whole : transcript p by limit start world input ≡ record { text = text_of s.exchanges ++ s.last_text; end = end } = ap (transcript_from p by limit (suc (length input)) start world 0) text ∙ is in
+      (s.written_is ∙ ap (λ t. greeting ++ t) (sym (ap (λ (t : Transcript). t.text) whole)), sym (ap (λ (t : Transcript). t.end) whole))

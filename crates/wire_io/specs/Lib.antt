@@ -8,3 +8,5 @@ pub mod Work
 pub mod Protocol
 pub mod Session
 pub mod Transcript
+pub mod Requests
+pub mod Serving

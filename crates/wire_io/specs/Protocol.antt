@@ -4,9 +4,7 @@ use Rattle.std.specs.Prelude.{◌≡◌, ℕ, List, [], ◌∷◌, ◌++◌, Opt
 use Rattle.wire_io.specs.Work.{Work}
 
 pub record Protocol (State Request Call Answer : Type 0) : Type 0 where
-  pub greeting : List ℕ
   -- what is known at the first request, such as who is logged in
-  pub start : State
   -- the request that these bytes spell, if they are a whole one; of a text only the shortest prefix
   -- that is a whole request counts
   pub whole : State → List ℕ → Option Request

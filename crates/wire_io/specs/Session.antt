@@ -123,28 +123,30 @@ module _ {State Request Call Answer : Type 0} (p : Protocol State Request Call A
   Ends limit nothing_left state at rest log text NoMemory = GivesUp state rest log text
 
   -- The bytes taken, the calls with their answers, the bytes written and the end are those of a
-  -- session of the protocol.
-  pub record IsWorked (limit : ℕ) (nothing_left : Type 0) (taken : List ℕ)
-      (log : List (Call × Answer)) (written : List ℕ) (end : SessionEnd) : Type 0 where
+  -- session of the protocol that begins in this state, with this greeting.
+  pub record IsWorked (greeting : List ℕ) (start : State) (limit : ℕ) (nothing_left : Type 0)
+      (taken : List ℕ) (log : List (Call × Answer)) (written : List ℕ)
+      (end : SessionEnd) : Type 0 where
     pub exchanges : List (Exchange Request Call Answer)
     pub state : State
     pub rest : List ℕ
     pub last_log : List (Call × Answer)
     pub last_text : List ℕ
-    pub outlived : Exchanges p.start exchanges state
+    pub outlived : Exchanges start exchanges state
     pub taken_is : taken ≡ bytes_of exchanges ++ rest
     pub within : length taken ≤ limit
     pub log_is : log ≡ log_of exchanges ++ last_log
-    pub written_is : written ≡ p.greeting ++ (text_of exchanges ++ last_text)
+    pub written_is : written ≡ greeting ++ (text_of exchanges ++ last_text)
     pub ends : Ends limit nothing_left state
         (length (bytes_of exchanges)) rest last_log last_text end
 
   -- the session was worked; or the write of the greeting failed, and no byte was taken and no call
   -- made
-  abbrev pub Session : ℕ → Type 0 → List ℕ → List (Call × Answer) → List ℕ → SessionEnd → Type 0
-  Session limit nothing_left taken log written end =
-      IsWorked limit nothing_left taken log written end
-      ⊎ ((end ≡ WriteFault) × (taken ≡ []) × (log ≡ []) × IsFront written p.greeting)
+  abbrev pub Session : (greeting : List ℕ) → (start : State) → ℕ → Type 0 → List ℕ
+      → List (Call × Answer) → List ℕ → SessionEnd → Type 0
+  Session greeting start limit nothing_left taken log written end =
+      IsWorked greeting start limit nothing_left taken log written end
+      ⊎ ((end ≡ WriteFault) × (taken ≡ []) × (log ≡ []) × IsFront written greeting)
 
   -- requests one after another; the session goes on after each, whatever the answers to its calls
   abbrev pub Outlives : State → List (Spelling Request) → State → Type 0
@@ -179,21 +181,22 @@ module _ {State Request Call Answer : Type 0} (p : Protocol State Request Call A
       × AlwaysEnds (p.work state request) word
 
   -- how an input ends a session of the protocol, if nothing fails
-  pub record InputEnds (limit : ℕ) (input : List ℕ) (end : SessionEnd) : Type 0 where
+  pub record InputEnds (start : State) (limit : ℕ) (input : List ℕ)
+      (end : SessionEnd) : Type 0 where
     pub xs : List (Spelling Request)
     pub state : State
     pub bytes : List ℕ
-    pub outlived : Outlives p.start xs state
+    pub outlived : Outlives start xs state
     pub input_is : input ≡ spelled_bytes xs ++ bytes
     pub ends : RestEnds limit state (length (spelled_bytes xs)) bytes end
 
 module _ {State Request Call Answer : Type 0} (p : Protocol State Request Call Answer) where
   -- The input decides an end, and a session over it has that end unless something failed or memory
   -- ran out.
-  pub record EndsAsDecided (limit : ℕ) (input : List ℕ) (failed : Type 0)
+  pub record EndsAsDecided (start : State) (limit : ℕ) (input : List ℕ) (failed : Type 0)
       (end : SessionEnd) : Type 0 where
-    pub decides : (due : SessionEnd) × InputEnds p limit input due
-    pub ends : (due : SessionEnd) → InputEnds p limit input due → ¬ failed → (end ≡ due)
+    pub decides : (due : SessionEnd) × InputEnds p start limit input due
+    pub ends : (due : SessionEnd) → InputEnds p start limit input due → ¬ failed → (end ≡ due)
         ⊎ (end ≡ NoMemory)
 
 -- the end is not one that a fault gives

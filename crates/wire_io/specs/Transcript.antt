@@ -89,5 +89,6 @@ module _ {State Request Call Answer : Type 0} (p : Protocol State Request Call A
 
     -- what the session of an input writes after its greeting, and how it ends; of the input only
     -- the first `limit` bytes are looked at
-    abbrev pub transcript : World → List ℕ → Transcript
-    transcript world input = transcript_from (suc (length input)) p.start world 0 (take limit input)
+    abbrev pub transcript : State → World → List ℕ → Transcript
+    transcript start world input = transcript_from (suc (length input)) start world 0
+        (take limit input)

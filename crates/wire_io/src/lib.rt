@@ -8,6 +8,7 @@ mod laws;
 mod memory;
 mod piece;
 mod real;
+mod service;
 mod source;
 
 pub use ends::{After, FeedEnd, LineEnd, SessionEnd, Wire};
@@ -18,4 +19,5 @@ pub use laws::{
 };
 pub use memory::{MemSink, MemSource};
 pub use real::{StdSink, StdSource};
+pub use service::{Service, end_of, run_service};
 pub use source::{Sink, Source, send};

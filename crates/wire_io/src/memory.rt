@@ -46,8 +46,7 @@ impl MemSource {
           left = bytes.items;
           piece = piece;
           fails = fails.items;
-          reads =
-              0;
+          reads = 0;
           faults = 0;
         } }
     {

@@ -1,15 +1,26 @@
-use Rattle.std.proofs.Common.{subst}
-use Rattle.quotactl.specs.Held.{Owned}
-use Rattle.quotactl.specs.Control.{served}
-use Rattle.quotactl.specs.Serving.{IsSession}
-use Rattle.quotactl.proofs.Controlling.{is_fresh}
+use Rattle.std.proofs.Common.{◌≡◌, List, [], ◌∷◌, map, Some, ap, ◌∙◌, subst}
+use Rattle.quota_units.specs.Limiting.{LimitNumbers}
+use Rattle.accounts_file.specs.Hosts.{Hosts, plain_hosts}
+use Rattle.desk.specs.Shares.{Share}
+use Rattle.plain_desk.specs.Owning.{share_of}
+use Rattle.imap_front.specs.Serving.{IsImapSession}
+use Rattle.quotactl.specs.Plain.{plain_share}
+use Rattle.quotactl.specs.Control.{served, fresh, hosts_of, units_of_storage}
+use Rattle.quotactl.proofs.Controlling.{all_undisturbed}
 use Rattle.quotactl.proofs.control.run.Goals as goal
 
 pub returns-in-Ok-clause-runs : goal.returns-in-Ok-clause-runs
 returns-in-Ok-clause-runs g c =
     let left = g.S.Source.left in
     let written = g.O.Sink.written in
-    let fresh = is_fresh c.in-Ok.account c.args.units c.in-Some.limits c.in-Ok.ensures.origin c.in-Ok.ensures.fresh (c.in-Some.ensures.value) in
-    served c.run_session.new.account c.run_session.result
-    (subst (λ (o : Owned). IsSession (left c.args.source.now) (left c.run_session.new.source) (written c.args.sink.now) (written c.run_session.new.sink) o c.run_session.new.account c.run_session.result) fresh c.run_session.ensures.session)
+    let n = c.args.units in
+    let limits : c.in-Some.limits ≡ units_of_storage n = c.in-Some.ensures.value in
+    let table : c.in-Ok.table ≡ hosts_of n = c.in-Ok.ensures.table ∙ ap plain_hosts limits in
+    let shares : map share_of c.in-Ok.desk ≡ fresh n = c.in-Ok.ensures.shares ∙ ap (λ (l : LimitNumbers). plain_share l ∷ []) limits in
+    let shares' = map share_of c.run_session-end.new.desk in
+    let s = c.run_session-end in
+    served shares' s.result
+    (subst (λ (h : Hosts). IsImapSession h (Some 0) (fresh n) shares' (left c.args.source.now) (left s.new.source) (written c.args.sink.now) (written s.new.sink) s.result) table
+    (subst (λ (x : List Share). IsImapSession c.in-Ok.table (Some 0) x shares' (left c.args.source.now) (left s.new.source) (written c.args.sink.now) (written s.new.sink) s.result) shares s.ensures.session))
+    (all_undisturbed c.in-Ok.desk s.new.desk c.in-Ok.ensures.never_fails s.ensures.leads (record { each = c.show_owned.ensures.each; few = c.show_owned.ensures.few }))
     c.status.ensures.value

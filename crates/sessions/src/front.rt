@@ -1,0 +1,8 @@
+/// What a session speaks, and who is logged in at its start.
+#[derive(Clone, Copy, Debug, PartialEq, Eq)]
+pub enum Front {
+    /// IMAP, with nobody logged in.
+    Imap,
+    /// IMAP, with the owner of the account of this number logged in.
+    ImapAs(u32),
+}

@@ -1,0 +1,57 @@
+// A session of any front.
+ghost use Rattle.std.specs.Prelude.{◌≡◌, ◌≢◌, ◌⊎◌, IfSome};
+ghost use Rattle.quota_units.specs.Causes.{Rose};
+ghost use Rattle.wire_io.specs.Session.{EndsAsDecided};
+ghost use Rattle.imap_front.specs.Serving.{input_limit, IsDeskOf, IsLogin};
+ghost use Rattle.sessions.specs.Fronts.{start_of, protocol_of, IsSessionOf};
+
+use crate::front::Front;
+use accounts_file::HostTable;
+use desk::Desk;
+use imap_front::run_imap;
+use std::alloc::Global;
+use wire_io::{SessionEnd, Sink, Source};
+
+/// Serves a session of the front to its end, over the accounts of the table. It reads the source,
+/// asks the desk, and writes to the sink.
+///
+/// The session takes at most 1073741824 bytes from the source.
+pub fn run_session<S: Source, O: Sink, D: Desk>(
+    alloc: Global,
+    front: Front,
+    table: &HostTable,
+    desk: &mut D,
+    source: &mut S,
+    sink: &mut O,
+) -> SessionEnd
+    requires desk { IsDeskOf table.now (D.shares desk.old) }
+    requires account { IsLogin table.now (start_of front) }
+
+    // What is written answers what is read. Each reply is the account machine's, at its call's
+    // place in the account's history.
+    ensures session { IsSessionOf table.now front (D.shares desk.old) (D.shares desk.new)
+        (S.left source.old) (S.left source.new) (O.written sink.old) (O.written sink.new) result }
+
+    // The session keeps of the desk what each call keeps.
+    ensures leads { D.leads desk.old desk.new }
+
+    // The end is `ReadFault` if a read failed, and `WriteFault` if a write failed. No other failure
+    // is counted.
+    ensures read_fault { result ≡ SessionEnd.ReadFault
+        → Rose (S.faults source.old) (S.faults source.new) }
+    ensures read_kept { result ≢ SessionEnd.ReadFault → S.faults source.new ≡ S.faults source.old }
+    ensures write_fault { result ≡ SessionEnd.WriteFault
+        → Rose (O.faults sink.old) (O.faults sink.new) }
+    ensures write_kept { result ≢ SessionEnd.WriteFault → O.faults sink.new ≡ O.faults sink.old }
+
+    // The input decides an end. The session has that end unless something failed or memory ran out.
+    ensures decided { IfSome (S.left source.old) (λ input.
+        EndsAsDecided (protocol_of table.now front) (start_of front) input_limit input
+        (Rose (S.faults source.old) (S.faults source.new)
+        ⊎ Rose (O.faults sink.old) (O.faults sink.new)) result) }
+{
+    match front {
+        Front::Imap => run_imap(alloc, None, table, desk, source, sink),
+        Front::ImapAs(account) => run_imap(alloc, Some(account), table, desk, source, sink),
+    }
+}

@@ -1,0 +1,56 @@
+-- What the owner's desk says of each of its accounts, in the words of the headline.
+use Rattle.std.proofs.Common.{◌≡◌, ◌<◌, ℕ, zero, suc, List, [], ◌∷◌, length, Option, Some, None, IfSome, sym, subst, arith}
+use Rattle.std.specs.List.{All, slice_get}
+use Rattle.keeper.specs.Calls.{Told}
+use Rattle.keeper.specs.Files.{ledger_at}
+use Rattle.quota_units.specs.declared.totals.Totals.{Totals}
+use Rattle.admission.specs.Fitting.{limits_at}
+use Rattle.account_core.specs.Account.{Account}
+use Rattle.root_ledgers.specs.declared.book.Standing.TheVariants.{Settled}
+use Rattle.root_ledgers.specs.Ledgers.{IsRight}
+use Rattle.account_ledger.specs.States.{State, IsAccount}
+use Rattle.account_ledger.specs.Stores.{Agree, fresh_scan, standing_at}
+use Rattle.accounts_file.specs.declared.entry.AccountEntry.{AccountEntry}
+use Rattle.accounts_file.specs.Hosts.{Hosts}
+use Rattle.desk.specs.Shares.{share_at}
+use Rattle.imap_front.specs.Serving.{IsDeskOf, IsOpenedAs}
+use Rattle.plain_desk.specs.Owning.{AreOwned, IsOwned, share_of}
+use Rattle.tests_of_desks.specs.Headline.{HasFreshSums, HasLegalHistory}
+
+pub legal_each : (states : List State) → AreOwned states → All HasLegalHistory states
+legal_each states owned k d lt = record { legal = (owned.each k d lt).order.legal; own = (owned.each k d lt).whole }
+
+fresh_one : (s : State) → IsOwned s → HasFreshSums s
+fresh_one s owned account is = by s.store.told (owned.order.agrees account is)
+  where
+    by : (o : Option Told) → IfSome o (λ told. Agree s.store account told.files)
+        → IfSome o (λ told. (root : ℕ) → root < length s.store.roots → standing_at s.store.standings root ≡ Settled
+        → IsRight (limits_at account.limits root) (fresh_scan s.store.roots root account.mailboxes told.files.rows) (ledger_at told.files root))
+    by None agree = tt
+    by (Some told) agree = λ root inside settled.
+        subst (λ (t : Totals). IsRight (limits_at account.limits root) t (ledger_at told.files root)) (sym (agree.fresh root inside)) (agree.right root inside settled)
+
+pub fresh_each : (states : List State) → AreOwned states → All HasFreshSums states
+fresh_each states owned k d lt = fresh_one _ (owned.each k d lt)
+
+-- a desk of three accounts fits their table
+pub three_fit : (hosts : Hosts) (a b c : State) → length hosts.accounts ≡ 3
+    → ((entry : AccountEntry) → slice_get hosts.accounts 0 ≡ Some entry → IsOpenedAs entry hosts.epoch (share_of a))
+    → ((entry : AccountEntry) → slice_get hosts.accounts 1 ≡ Some entry → IsOpenedAs entry hosts.epoch (share_of b))
+    → ((entry : AccountEntry) → slice_get hosts.accounts 2 ≡ Some entry → IsOpenedAs entry hosts.epoch (share_of c))
+    → IsDeskOf hosts (share_of a ∷ share_of b ∷ share_of c ∷ [])
+three_fit hosts a b c three first second third = record { count = sym three; each = each }
+  where
+    past : (xs : List AccountEntry) (k : ℕ) (entry : AccountEntry) → length xs ≡ 3 → slice_get xs (suc (suc (suc k))) ≡ Some entry → ⊥
+    past [] k entry e is = cc
+    past (x ∷ []) k entry e is = cc
+    past (x ∷ y ∷ []) k entry e is = cc
+    past (x ∷ y ∷ z ∷ []) k entry e is = cc
+    past (x ∷ y ∷ z ∷ w ∷ xs) k entry e is = omega (arith, e)
+
+    each : (account : ℕ) (entry : AccountEntry) → slice_get hosts.accounts account ≡ Some entry
+        → IsOpenedAs entry hosts.epoch (share_at (share_of a ∷ share_of b ∷ share_of c ∷ []) account)
+    each zero entry is = first entry is
+    each (suc zero) entry is = second entry is
+    each (suc (suc zero)) entry is = third entry is
+    each (suc (suc (suc k))) entry is = absurd (past hosts.accounts k entry three is)

@@ -1,0 +1,11 @@
+//! Tests of desks over keepers in memory.
+#![tactic(auto)]
+
+#[cfg(test)]
+mod calls;
+#[cfg(test)]
+mod headline;
+#[cfg(test)]
+mod plain;
+#[cfg(test)]
+mod three_accounts;
