@@ -1,5 +1,5 @@
 #!/usr/bin/env python3
-"""Checks that the documents follow the crates, and lists what they lack. It proves nothing and is no part of the gate.
+"""Checks that the documents follow the crates, and lists what they lack. It proves nothing. `.ci/run` runs it after the gate.
 
 - docs/LAYERS.md and docs/PROVED.md have each crate of crates.txt once and in that order, and LAYERS.md says of each what
   crates.txt says that it stands on.
