@@ -1,10 +1,12 @@
 -- Histories of an account: entries one after another, the account that they make, and the machine's
 -- reply to a call after them.
-use Rattle.std.specs.Prelude.{ℕ, Bool, if◌then◌else◌, List, [], ◌∷◌}
+use Rattle.std.specs.Prelude.{◌≢◌, ℕ, Bool, if◌then◌else◌, List, [], ◌∷◌, Result, Err}
 use Rattle.quota_roots.specs.declared.root.RootSpec.{RootSpec}
 use Rattle.account_core.specs.declared.calls.Call.{Call}
 use Rattle.account_core.specs.declared.calls.Reply.{Reply}
 use Rattle.account_core.specs.declared.calls.Entry.{Entry}
+use Rattle.account_core.specs.declared.calls.StepError.{StepError}
+use Rattle.account_core.specs.declared.calls.StepError.TheVariants.{JournalFull}
 use Rattle.account_core.specs.Account.{Account}
 use Rattle.account_core.specs.Machine.{reply_of, step}
 
@@ -13,6 +15,10 @@ pub data Answer : Type 0 where
   replied : Reply → Answer
   store : Answer
   journal_full : Answer
+
+-- the answer is never that the journal is full
+abbrev pub NeverFull : {T : Type 0} → Result T StepError → Type 0
+NeverFull result = (limit : ℕ) → result ≢ Err (JournalFull limit)
 
 -- the account after an entry; an entry with fault leaves the account as it was
 abbrev pub account_after : List RootSpec → Account → Entry → Account

@@ -1,7 +1,7 @@
 ghost use Rattle.std.specs.Prelude.{◌≡◌, IfOk};
 ghost use Rattle.account_core.specs.Delivering.{delivered_base, DeliveredBasesDiffer};
 
-use quota_units::{Name, NameError, NoMemory};
+use quota_units::{Name, NoMemory};
 use std::alloc::Global;
 
 /// The base of a delivered message's name: `<epoch>.<number>.quotad`, with both numbers in decimal
@@ -15,11 +15,7 @@ pub fn delivered_base(alloc: Global, epoch: u64, number: u64) -> Result<Name, No
     ensures { IfOk result (λ name. name ≡ delivered_base epoch number) }
 {
     let text = format!(in alloc; "{epoch}.{number}.quotad")?;
-    match Name::of(alloc, text.as_bytes()) {
-        Ok(name) => Ok(name),
-        Err(NameError::NoMemory) => Err(NoMemory),
-        Err(NameError::TooLong { .. }) => unreachable!(),
-    }
+    Name::of_short(alloc, text.as_bytes())
 }
 
 /// Two deliveries of an account have different bases, if their numbers differ and are below 2^64.

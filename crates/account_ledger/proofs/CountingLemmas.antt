@@ -12,7 +12,7 @@ use Rattle.account_core.specs.Messages.{sum_in}
 use Rattle.account_ledger.specs.declared.counting.MailboxSums.{MailboxSums}
 use Rattle.account_ledger.specs.Counting.{mailbox_at, sums_of, with_file, deleted_of, deleted_size_of, unseen_of}
 use Rattle.account_ledger.specs.Messages.{message_in, messages_in, StandFor}
-use Rattle.quota_units.specs.Sums.{cut}
+use Rattle.quota_units.specs.Sums.{cut_sum}
 use Rattle.root_ledgers.specs.Scans.{size_of_file, sizes_of}
 use Rattle.quota_units.proofs.SumLemmas.{same_totals}
 use Rattle.root_ledgers.proofs.ScanLemmas.{cut_more, sum_more}
@@ -34,10 +34,10 @@ pub sums_more : (files : List FileRow) (i : ℕ) (file : FileRow) → i < length
 sums_more files i file inside =
     same_mailbox_sums
     (same_totals (cut_more (sizes_of (take i files)) (size_of_file (get_or files i file))) (cut_more (length (take i files)) 1)
-    ∙ same_totals (ap cut (sym (sum_more size_of_file files i file inside))) (ap cut (sym (length_more files i file inside))))
+    ∙ same_totals (ap cut_sum (sym (sum_more size_of_file files i file inside))) (ap cut_sum (sym (length_more files i file inside))))
     (same_totals (cut_more (sum_by deleted_size_of (take i files)) (deleted_size_of (get_or files i file))) (cut_more (sum_by deleted_of (take i files)) (deleted_of (get_or files i file)))
-    ∙ same_totals (ap cut (sym (sum_more deleted_size_of files i file inside))) (ap cut (sym (sum_more deleted_of files i file inside))))
-    (cut_more (sum_by unseen_of (take i files)) (unseen_of (get_or files i file)) ∙ ap cut (sym (sum_more unseen_of files i file inside)))
+    ∙ same_totals (ap cut_sum (sym (sum_more deleted_size_of files i file inside))) (ap cut_sum (sym (sum_more deleted_of files i file inside))))
+    (cut_more (sum_by unseen_of (take i files)) (unseen_of (get_or files i file)) ∙ ap cut_sum (sym (sum_more unseen_of files i file inside)))
 
 -- the files of a mailbox of the account tell its messages there
 module _ (mailboxes : List (List ℕ)) (rows : List Row) (mailbox : List ℕ) (there : is_mailbox_of mailboxes mailbox ≡ true) (weight : Message → ℕ) where

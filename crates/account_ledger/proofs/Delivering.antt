@@ -6,7 +6,7 @@ use Rattle.quota_units.specs.declared.resource.Resource.{Resource}
 use Rattle.quota_roots.specs.declared.root.RootSpec.{RootSpec}
 use Rattle.keeper.specs.Files.{Files, Row, has_row}
 use Rattle.keeper.specs.Calls.{Told}
-use Rattle.message_names.specs.Sizes.{cut}
+use Rattle.message_names.specs.Sizes.{cut_size}
 use Rattle.message_names.specs.Messages.{message_of, FileMessage}
 use Rattle.message_names.specs.Parts.{base_of}
 use Rattle.account_core.specs.declared.calls.Call.TheVariants.{Deliver}
@@ -80,11 +80,11 @@ nowhere_replied roots account mailbox octets flags none = sym (ap (λ b. cond b 
 pub nowhere_leaves : (roots : List RootSpec) (account : Account) (mailbox : List ℕ) (octets : ℕ) (flags : Flags) → has_mailbox account mailbox ≡ false → step roots account (Deliver mailbox octets flags) ≡ account
 nowhere_leaves roots account mailbox octets flags none = ap (delivered_after account mailbox octets flags) (sym (nowhere_replied roots account mailbox octets flags none))
 
-file_told : (mailbox name bytes base : List ℕ) (octets : ℕ) (flags : Flags) → message_of name (length bytes) ≡ record { base = base; octets = cut octets; flags = flags } → octets ≤ 67108864
+file_told : (mailbox name bytes base : List ℕ) (octets : ℕ) (flags : Flags) → message_of name (length bytes) ≡ record { base = base; octets = cut_size octets; flags = flags } → octets ≤ 67108864
     → told_by (record { mailbox = mailbox; name = name; octets = bytes }) ≡ record { mailbox = mailbox; base = base; octets = octets; flags = flags }
 file_told mailbox name bytes base octets flags reads small =
     ap (λ (f : FileMessage). let m : Message = record { mailbox = mailbox; base = f.base; octets = f.octets; flags = f.flags } in m) reads
-    ∙ ap (λ n. let m : Message = record { mailbox = mailbox; base = base; octets = n; flags = flags } in m) (let e : cut octets ≡ octets = omega arith in e)
+    ∙ ap (λ n. let m : Message = record { mailbox = mailbox; base = base; octets = n; flags = flags } in m) (let e : cut_size octets ≡ octets = omega arith in e)
 
 -- a file that is put brings its message
 pub files_put : (mailboxes : List (List ℕ)) (epoch number : ℕ) (mailbox name bytes : List ℕ) (octets : ℕ) (flags : Flags) (files files1 : Files) → is_mailbox_of mailboxes mailbox ≡ true

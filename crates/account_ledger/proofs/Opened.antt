@@ -156,12 +156,12 @@ same_bytes (b ∷ bytes) = rw (eq_same b, same_bytes bytes) refl
 
 of_epoch : (epoch number : ℕ) → is_of_epoch epoch (delivered_base epoch number) ≡ true
 of_epoch epoch number =
-    let front = decimal epoch ++ codes "." in
-    let a : starts_with nat_eq (delivered_base epoch number) front ≡ true =
-    ap (λ bs. pointwise nat_eq front (take (length front) bs)) (append_assoc front (decimal number) (codes ".quotad")) ∙ ap (pointwise nat_eq front) (take_at front (decimal number ++ codes ".quotad") (length front) refl) ∙ same_bytes front in
+    let prefix = decimal epoch ++ codes "." in
+    let a : starts_with nat_eq (delivered_base epoch number) prefix ≡ true =
+    ap (λ bs. pointwise nat_eq prefix (take (length prefix) bs)) (append_assoc prefix (decimal number) (codes ".quotad")) ∙ ap (pointwise nat_eq prefix) (take_at prefix (decimal number ++ codes ".quotad") (length prefix) refl) ∙ same_bytes prefix in
     let whole = delivered_base epoch number in
-    let long : length (front ++ decimal number) ≡ length whole - 7 = let e = length-append (front ++ decimal number) (codes ".quotad") in omega arith in
-    let b : ends_with nat_eq whole (codes ".quotad") ≡ true = ap (pointwise nat_eq (codes ".quotad")) (drop_at (front ++ decimal number) (codes ".quotad") (length whole - 7) long) ∙ same_bytes (codes ".quotad") in
+    let long : length (prefix ++ decimal number) ≡ length whole - 7 = let e = length-append (prefix ++ decimal number) (codes ".quotad") in omega arith in
+    let b : ends_with nat_eq whole (codes ".quotad") ≡ true = ap (pointwise nat_eq (codes ".quotad")) (drop_at (prefix ++ decimal number) (codes ".quotad") (length whole - 7) long) ∙ same_bytes (codes ".quotad") in
     rw (a, b) refl
 
 unused : (epoch number : ℕ) (files : List FileRow) → find (λ file. is_of_epoch epoch (base_in file)) files ≡ None → times_in files (delivered_base epoch number) ≡ 0

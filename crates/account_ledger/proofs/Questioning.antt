@@ -4,7 +4,7 @@ use Rattle.std.specs.List.{slice_get}
 use Rattle.std.proofs.lemmas.Option.{slice_get-get_or, slice_get_past}
 use Rattle.std.proofs.lemmas.List.Sums.{sum_by-le-sum_by}
 use Rattle.quota_units.specs.Causes.{next_count}
-use Rattle.quota_units.specs.Sums.{cut, cut_totals}
+use Rattle.quota_units.specs.Sums.{cut_sum, cut_totals}
 use Rattle.quota_units.specs.declared.totals.Totals.{Totals}
 use Rattle.quota_roots.specs.Governing.{governing}
 use Rattle.keeper.specs.Files.{listed}
@@ -58,14 +58,14 @@ module _ (mailbox : List ℕ) (files : List FileRow) (account : Account) (tell :
   small_ones : sum_by (λ (m : Message). 1) account.messages < 2 ^ 62
   small_ones = let e = sum_ones account.messages in let f = tell.count in omega arith
 
-  octets_are : cut (sizes_of files) ≡ sum_in mailbox (λ m. m.octets) account.messages
+  octets_are : cut_sum (sizes_of files) ≡ sum_in mailbox (λ m. m.octets) account.messages
   octets_are =
       let e = tell.sums (λ m. m.octets) in
       let f = below mailbox (λ m. m.octets) (λ m. m.octets) account.messages (λ m. omega arith) in
       let g = tell.octets in
       omega arith
 
-  count_is : cut (length files) ≡ sum_in mailbox (λ m. 1) account.messages
+  count_is : cut_sum (length files) ≡ sum_in mailbox (λ m. 1) account.messages
   count_is =
       let e = tell.sums (λ m. 1) in
       let f = below mailbox (λ m. 1) (λ m. 1) account.messages (λ m. omega arith) in
@@ -73,7 +73,7 @@ module _ (mailbox : List ℕ) (files : List FileRow) (account : Account) (tell :
       let h = sum_ones files in
       omega arith
 
-  unseen_is : cut (sum_by unseen_of files) ≡ sum_in mailbox (λ m. cond m.flags.seen 0 1) account.messages
+  unseen_is : cut_sum (sum_by unseen_of files) ≡ sum_in mailbox (λ m. cond m.flags.seen 0 1) account.messages
   unseen_is =
       let e = tell.sums (λ m. cond m.flags.seen 0 1) in
       let f = below mailbox (λ m. cond m.flags.seen 0 1) (λ m. 1) account.messages (λ m. one m.flags.seen) in
@@ -84,7 +84,7 @@ module _ (mailbox : List ℕ) (files : List FileRow) (account : Account) (tell :
       one true = omega arith
       one false = omega arith
 
-  deleted_is : cut (sum_by deleted_of files) ≡ sum_in mailbox (λ m. cond m.flags.trashed 1 0) account.messages
+  deleted_is : cut_sum (sum_by deleted_of files) ≡ sum_in mailbox (λ m. cond m.flags.trashed 1 0) account.messages
   deleted_is =
       let e = tell.sums (λ m. cond m.flags.trashed 1 0) in
       let f = below mailbox (λ m. cond m.flags.trashed 1 0) (λ m. 1) account.messages (λ m. one m.flags.trashed) in
@@ -95,7 +95,7 @@ module _ (mailbox : List ℕ) (files : List FileRow) (account : Account) (tell :
       one true = omega arith
       one false = omega arith
 
-  deleted_octets_are : cut (sum_by deleted_size_of files) ≡ sum_in mailbox (λ m. cond m.flags.trashed m.octets 0) account.messages
+  deleted_octets_are : cut_sum (sum_by deleted_size_of files) ≡ sum_in mailbox (λ m. cond m.flags.trashed m.octets 0) account.messages
   deleted_octets_are =
       let e = tell.sums (λ m. cond m.flags.trashed m.octets 0) in
       let f = below mailbox (λ m. cond m.flags.trashed m.octets 0) (λ m. m.octets) account.messages (λ m. one m.flags.trashed m.octets) in
@@ -112,7 +112,7 @@ module _ (mailbox : List ℕ) (files : List FileRow) (account : Account) (tell :
       same_status count_is unseen_is deleted_is deleted_octets_are octets_are
       ∙ ap (λ b. cond b (status_of mailbox account.messages) NoMailbox) there
 
-  part_is : (generation : ℕ) → generation ≡ account.generation → Part generation (cut (sizes_of files)) (cut (length files)) ≡ part_of account (Some mailbox)
+  part_is : (generation : ℕ) → generation ≡ account.generation → Part generation (cut_sum (sizes_of files)) (cut_sum (length files)) ≡ part_of account (Some mailbox)
   part_is generation same = same_part same octets_are count_is
 
 pub status_replied : (l : Live) (account : Account) (shows : Shows l account) (mailbox : List ℕ) (files : List FileRow) (sums : MailboxSums) → is_mailbox_of l.mailboxes mailbox ≡ true → files ≡ listed mailbox shows.told.files.rows → sums ≡ sums_of files

@@ -8,7 +8,7 @@ use Rattle.std.proofs.lemmas.Bool.{cases_lt}
 use Rattle.std.proofs.lemmas.List.{get_or_past, map-append, take_more, take_more_set}
 use Rattle.quota_units.specs.Limiting.{LimitNumbers, IsLimit, AreLimits}
 use Rattle.quota_units.specs.declared.resource.Resource.TheVariants.{Storage, Message as MessageCount}
-use Rattle.quota_units.specs.Sums.{cut}
+use Rattle.quota_units.specs.Sums.{cut_sum}
 use Rattle.quota_units.specs.declared.totals.Totals.{Totals}
 use Rattle.quota_units.specs.declared.resource.Resource.{Resource}
 use Rattle.quota_roots.specs.declared.root.RootSpec.{RootSpec}
@@ -212,14 +212,14 @@ pub verdict_is : (first : Option (ℕ × Resource)) (verdict : Verdict) → ((ve
 verdict_is first Fits fits others over same = sym same ∙ fits.0 refl
 verdict_is first (Over root resource) fits others over same = sym same ∙ (others root resource).0 refl
 
-allows_cut : (limit : Option ℕ) (had octets : ℕ) → IfSome limit IsLimit → allows limit (had + cut octets) ≡ allows limit (had + octets)
+allows_cut : (limit : Option ℕ) (had octets : ℕ) → IfSome limit IsLimit → allows limit (had + cut_sum octets) ≡ allows limit (had + octets)
 allows_cut None had octets range = refl
 allows_cut (Some limit) had octets range = at_limit limit had octets range.bounded
   where
-    at_limit : (l h o : ℕ) → l ≤ 9007199254740991 → nat_le (h + cut o) l ≡ nat_le (h + o) l
+    at_limit : (l h o : ℕ) → l ≤ 9007199254740991 → nat_le (h + cut_sum o) l ≡ nat_le (h + o) l
     at_limit l h o bounded = grind (arith, nat_tests)
 
-over_cut : (limits : LimitNumbers) (totals : Totals) (octets : ℕ) → AreLimits limits → over limits totals (cut octets) ≡ over limits totals octets
+over_cut : (limits : LimitNumbers) (totals : Totals) (octets : ℕ) → AreLimits limits → over limits totals (cut_sum octets) ≡ over limits totals octets
 over_cut limits totals octets range =
     ap (λ (b : Bool). cond (not b) (Some Storage) (cond (not (number_fits limits totals)) (Some MessageCount) None)) (allows_cut limits.octets totals.octets octets range.octets)
 
@@ -230,11 +230,11 @@ range_at limits all root = elim (cases_lt root (length limits)) [
 ]
 
 -- a message of more octets than are kept is over the same limits as one of so many
-pub first_over_cut : (limits : List LimitNumbers) (totals : List Totals) (roots : List ℕ) (octets : ℕ) → All AreLimits limits → first_over limits totals roots (cut octets) ≡ first_over limits totals roots octets
+pub first_over_cut : (limits : List LimitNumbers) (totals : List Totals) (roots : List ℕ) (octets : ℕ) → All AreLimits limits → first_over limits totals roots (cut_sum octets) ≡ first_over limits totals roots octets
 first_over_cut limits totals roots octets all = ap (λ (ps : List (ℕ × Resource)). slice_get ps 0) (each roots)
   where
-    each : (rs : List ℕ) → all_over limits totals rs (cut octets) ≡ all_over limits totals rs octets
+    each : (rs : List ℕ) → all_over limits totals rs (cut_sum octets) ≡ all_over limits totals rs octets
     each [] = refl
     each (r ∷ rs) =
-        ap (λ o. cons_option (option_map (λ resource. (r, resource)) o) (all_over limits totals rs (cut octets))) (over_cut (limits_at limits r) (totals_at totals r) octets (range_at limits all r))
+        ap (λ o. cons_option (option_map (λ resource. (r, resource)) o) (all_over limits totals rs (cut_sum octets))) (over_cut (limits_at limits r) (totals_at totals r) octets (range_at limits all r))
         ∙ ap (λ ys. cons_option (option_map (λ resource. (r, resource)) (over (limits_at limits r) (totals_at totals r) octets)) ys) (each rs)

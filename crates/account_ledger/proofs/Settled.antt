@@ -3,7 +3,7 @@ use Rattle.std.proofs.Common.{◌≡◌, ℕ, ◌<◌, Bool, List, length, Optio
 use Rattle.std.specs.Prelude.{IfSome, ◌⊎◌}
 use Rattle.std.proofs.lemmas.Bool.{cases_lt}
 use Rattle.std.proofs.lemmas.List.{get_or_past, length-map}
-use Rattle.std.specs.Prelude.{Result, Err}
+use Rattle.std.specs.Prelude.{Result, Ok, Err, MatchResult, IsErrAnd, OnOk}
 use Rattle.quota_units.specs.Causes.{HasCause}
 use Rattle.keeper.specs.declared.failed.KeepError.{KeepError}
 use Rattle.keeper.specs.declared.failed.KeepError.TheVariants.{NoMemory as keep_no_memory, Failed}
@@ -196,9 +196,20 @@ prepares_said failed failed' may l m to fro prep = record {
   due = changes_weaken {X = Told} _ _ (λ (x y : Told) s. record { fewer = λ f. s.fewer (fro f); bounded = s.bounded }) l.told m.told prep.due;
 }
 
--- a failure of the keeper is one of the store
-pub step_error_failed : {A B : Type 0} (fault : KeepError)
-    → ((let r : Result A KeepError = Err fault in r) ≡ Err Failed → (let r : Result B StepError = Err (step_error fault) in r) ≡ Err StoreError)
-    × ((let r : Result B StepError = Err (step_error fault) in r) ≡ Err StoreError → (let r : Result A KeepError = Err fault in r) ≡ Err Failed)
-step_error_failed keep_no_memory = (λ e. absurd (cc), λ e. absurd (cc))
-step_error_failed Failed = (λ e. refl, λ e. refl)
+-- an answer of the keeper's and the same answer in the words of calls
+abbrev pub IsSaid : {T : Type 0} → Result T KeepError → Result T StepError → Type 0
+IsSaid answer said = MatchResult answer (λ x. said ≡ Ok x) (λ e. IsErrAnd said (λ d. d ≡ step_error e))
+
+-- both fail or neither does
+pub said_failed : {T : Type 0} (answer : Result T KeepError) (said : Result T StepError) → IsSaid answer said → (answer ≡ Err Failed → said ≡ Err StoreError) × (said ≡ Err StoreError → answer ≡ Err Failed)
+said_failed (Ok x) (Ok y) is = (λ e. absurd (cc), λ e. absurd (cc))
+said_failed (Ok x) (Err d) is = absurd (cc)
+said_failed (Err e) (Ok y) is = absurd is
+said_failed (Err keep_no_memory) (Err d) is = (λ e. absurd (cc), λ e. absurd (cc))
+said_failed (Err Failed) (Err d) is = (λ e. ap Err is, λ e. refl)
+
+pub said_on_ok : {T P Q : Type 0} (answer : Result T KeepError) (said : Result T StepError) → IsSaid answer said → (P → Q) → OnOk answer P → OnOk said Q
+said_on_ok (Ok x) (Ok y) is then p = then p
+said_on_ok (Ok x) (Err d) is then p = tt
+said_on_ok (Err e) (Ok y) is then p = absurd is
+said_on_ok (Err e) (Err d) is then p = tt

@@ -10,7 +10,7 @@ use Rattle.account_core.specs.Account.{Account, Message, counted, usage}
 use Rattle.quota_units.proofs.SumLemmas.{same_totals}
 use Rattle.account_core.proofs.Admitting.{totals_at-usages}
 use Rattle.account_ledger.specs.Messages.{message_in, messages_of, messages_in, StandFor}
-use Rattle.quota_units.specs.Sums.{cut}
+use Rattle.quota_units.specs.Sums.{cut_sum}
 use Rattle.root_ledgers.specs.Scans.{scan, scanned_octets, scanned_count, size_of_file}
 use Rattle.account_ledger.specs.Stores.{fresh_scan, usage_at}
 use Rattle.root_ledgers.proofs.Sums.{same_sums, sum_map, sum_flat_map, sum_ones, sum_where}
@@ -77,6 +77,6 @@ module _ (roots : List RootSpec) (root : ℕ) (inside : root < length roots) (ac
       let b : (usage spec account).count ≤ sum_by (λ (m : Message). 1) account.messages =
       sum_by-le-sum_by (λ (m : Message). cond (governs spec m.mailbox) 1 0) (λ (m : Message). 1) account.messages (λ m. at_most (governs spec m.mailbox) 1) in
       let c = sum_ones account.messages in
-      let e : cut (scanned_octets roots root mailboxes rows) ≡ (usage spec account).octets = omega (arith, bounded.0) in
-      let f : cut (scanned_count roots root mailboxes rows) ≡ (usage spec account).count = omega (arith, bounded.1) in
+      let e : cut_sum (scanned_octets roots root mailboxes rows) ≡ (usage spec account).octets = omega (arith, bounded.0) in
+      let f : cut_sum (scanned_count roots root mailboxes rows) ≡ (usage spec account).count = omega (arith, bounded.1) in
       same_totals e f ∙ sym (totals_at-usages roots account root no_root inside)

@@ -6,7 +6,7 @@ use Rattle.account_core.specs.Account.{Account, Message}
 use Rattle.account_core.specs.Messages.{sum_in}
 use Rattle.account_ledger.specs.declared.counting.MailboxSums.{MailboxSums}
 use Rattle.account_ledger.specs.Messages.{message_in}
-use Rattle.quota_units.specs.Sums.{cut, cut_totals, most, AreSmall}
+use Rattle.quota_units.specs.Sums.{cut_sum, cut_totals, max_sum, AreSmall}
 use Rattle.root_ledgers.specs.Scans.{size_of_file, sizes_of}
 
 -- one if the file lacks the flag S, or else zero
@@ -25,7 +25,7 @@ abbrev pub sums_of : List FileRow → MailboxSums
 sums_of files = record {
   all = cut_totals (sizes_of files) (length files);
   deleted = cut_totals (sum_by deleted_size_of files) (sum_by deleted_of files);
-  unseen = cut (sum_by unseen_of files);
+  unseen = cut_sum (sum_by unseen_of files);
 }
 
 -- the sums with one more file
@@ -34,7 +34,7 @@ with_file sums file = record {
   all = cut_totals (sums.all.octets + size_of_file file) (sums.all.count + 1);
   deleted = cut_totals (sums.deleted.octets + deleted_size_of file)
       (sums.deleted.count + deleted_of file);
-  unseen = cut (sums.unseen + unseen_of file);
+  unseen = cut_sum (sums.unseen + unseen_of file);
 }
 
 pub record AreSmallSums (sums : MailboxSums) : Type 0 where
@@ -51,5 +51,5 @@ mailbox_at mailboxes index = slice_index_or mailboxes index []
 pub record TellMailbox (mailbox : List ℕ) (files : List FileRow) (account : Account) : Type 0 where
   pub sums : (weight : Message → ℕ) → sum_by (λ file. weight (message_in mailbox file)) files
       ≡ sum_in mailbox weight account.messages
-  pub octets : sum_by (λ (m : Message). m.octets) account.messages ≤ most
-  pub count : length account.messages ≤ most
+  pub octets : sum_by (λ (m : Message). m.octets) account.messages ≤ max_sum
+  pub count : length account.messages ≤ max_sum

@@ -1,6 +1,6 @@
 -- A live account: its keeper, what is kept of the account in memory, and which account it stands
 -- for.
-use Rattle.std.specs.Prelude.{◌≡◌, ◌≢◌, ◌<◌, ◌≤◌, ◌+◌, ◌^◌, ℕ, Bool, false, List, length, Option, Some, IfSome, Result, Ok, Err, IfOk}
+use Rattle.std.specs.Prelude.{◌≡◌, ◌<◌, ◌≤◌, ◌+◌, ◌^◌, ℕ, Bool, false, List, length, Option, Some, IfSome, Result, Ok, Err, IfOk}
 use Rattle.quota_units.specs.Causes.{HasCause, Rose, next_count}
 use Rattle.quota_units.specs.Limiting.{LimitNumbers}
 use Rattle.quota_roots.specs.declared.root.RootSpec.{RootSpec}
@@ -11,8 +11,9 @@ use Rattle.admission.specs.Fitting.{limits_at}
 use Rattle.account_core.specs.declared.calls.Call.{Call}
 use Rattle.account_core.specs.declared.calls.Reply.{Reply}
 use Rattle.account_core.specs.declared.calls.StepError.{StepError}
-use Rattle.account_core.specs.declared.calls.StepError.TheVariants.{Store as StoreError, JournalFull}
+use Rattle.account_core.specs.declared.calls.StepError.TheVariants.{Store as StoreError}
 use Rattle.account_core.specs.Forms.{HasForm}
+use Rattle.account_core.specs.History.{NeverFull}
 use Rattle.account_core.specs.Account.{Account}
 use Rattle.account_core.specs.Machine.{step}
 use Rattle.account_core.specs.Orderly.{IsOrderly}
@@ -144,4 +145,4 @@ pub record Acts (call : Call) (bytes : List ℕ) (result : Result Reply StepErro
   pub later : NoneFalls (store_of l) (store_of l')
   pub cause : result ≡ Err StoreError → Rose l.faults l'.faults
   pub due : UsesDue result (store_of l) (store_of l')
-  pub never_full : (limit : ℕ) → result ≢ Err (JournalFull limit)
+  pub never_full : NeverFull result

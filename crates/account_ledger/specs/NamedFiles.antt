@@ -8,7 +8,7 @@ use Rattle.account_opening.specs.Bases.{base_in}
 use Rattle.quota_units.specs.declared.flags.Flags.{Flags}
 use Rattle.message_names.specs.Written.{written_name}
 use Rattle.message_names.specs.Messages.{message_of}
-use Rattle.message_names.specs.Sizes.{cut}
+use Rattle.message_names.specs.Sizes.{cut_size}
 use Rattle.account_core.specs.Delivering.{delivered_base}
 
 -- the first of a mailbox's files that has this base
@@ -26,4 +26,4 @@ pub record IsThere (from base to : List ℕ) (message : Message) (account : Acco
 pub record IsDeliveryName (epoch number octets : ℕ) (flags : Flags) (name : List ℕ) : Type 0 where
   pub written : name ≡ written_name (delivered_base epoch number) octets flags
   pub reads : (length : ℕ) → message_of name length
-      ≡ record { base = delivered_base epoch number; octets = cut octets; flags = flags }
+      ≡ record { base = delivered_base epoch number; octets = cut_size octets; flags = flags }

@@ -6,9 +6,10 @@ use Rattle.account_core.specs.declared.calls.Call.{Call}
 use Rattle.account_core.specs.declared.calls.Call.TheVariants.{ScanBegin, ScanPart}
 use Rattle.account_core.specs.declared.calls.Reply.{Reply}
 use Rattle.account_core.specs.declared.calls.StepError.{StepError}
-use Rattle.account_core.specs.declared.calls.StepError.TheVariants.{Store as StoreError, NoMemory, JournalFull}
+use Rattle.account_core.specs.declared.calls.StepError.TheVariants.{Store as StoreError, NoMemory}
 use Rattle.account_core.specs.Account.{Account}
 use Rattle.account_core.specs.Forms.{HasForm}
+use Rattle.account_core.specs.History.{NeverFull}
 use Rattle.account_core.specs.Machine.{reply_of}
 use Rattle.account_ledger.specs.Stores.{Store, Agrees, Keeps, NoneFalls}
 use Rattle.account_ledger.specs.Settling.{SettledFor, SettlesSome, needs}
@@ -23,7 +24,7 @@ ListsFor (ScanPart index) lists lists' = (lists' ≡ lists) ⊎ (lists' ≡ next
 ListsFor call lists lists' = Unit {0}
 
 -- if the store failed in a call, the call used up a failure that was due
-abbrev pub UsesDue : Result Reply StepError → Store → Store → Type 0
+abbrev pub UsesDue : {T : Type 0} → Result T StepError → Store → Store → Type 0
 UsesDue result f f' =
     Due (result ≡ Err StoreError) f.faults f.append_faults f'.faults f'.append_faults f.told f'.told
 
@@ -64,4 +65,4 @@ pub record Performs (Is : Account → Type 0) (call : Call) (bytes : List ℕ)
   pub later : NoneFalls f f'
   pub cause : result ≡ Err StoreError → Rose f.faults f'.faults
   pub lists : ListsFor call f.lists f'.lists
-  pub never_full : (limit : ℕ) → result ≢ Err (JournalFull limit)
+  pub never_full : NeverFull result

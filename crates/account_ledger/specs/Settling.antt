@@ -1,5 +1,5 @@
 -- Which roots a call needs, and what settling them does to an account's store.
-use Rattle.std.specs.Prelude.{◌≡◌, ◌⊎◌, ℕ, Bool, true, false, nat_eq, codes, List, length, Option, Some, None}
+use Rattle.std.specs.Prelude.{◌≡◌, ◌⊎◌, ℕ, Bool, true, false, nat_eq, codes, List, length, Option, Some, None, Result, Err}
 use Rattle.quota_roots.specs.declared.root.RootSpec.{RootSpec}
 use Rattle.quota_roots.specs.Governing.{governs_at, gains_at}
 use Rattle.quota_roots.specs.RootLists.{root_named}
@@ -8,6 +8,8 @@ use Rattle.keeper.specs.Calls.{Changes, OnFiles}
 use Rattle.admission.specs.Fitting.{limits_at}
 use Rattle.account_core.specs.declared.calls.Call.{Call}
 use Rattle.account_core.specs.declared.calls.Call.TheVariants.{Deliver, Check, Move, Quota, SetLimits, Roots}
+use Rattle.account_core.specs.declared.calls.StepError.{StepError}
+use Rattle.account_core.specs.declared.calls.StepError.TheVariants.{NoMemory}
 use Rattle.account_core.specs.Account.{Account}
 use Rattle.root_ledgers.specs.declared.book.Standing.{Standing}
 use Rattle.root_ledgers.specs.declared.book.Standing.TheVariants.{Settled, Doubt}
@@ -71,6 +73,10 @@ pub record LedgersStay (f f' : Store) : Type 0 where
 -- the ledgers, the standings and both counts of faults stay
 abbrev pub LedgersAndFaultsStay : Store → Store → Type 0
 LedgersAndFaultsStay f f' = LedgersStay f f' × (f'.faults ≡ f.faults)
+
+-- if memory ran out, the ledgers, the standings and both counts of faults stay
+abbrev pub SparesLedgers : {T : Type 0} → Result T StepError → Store → Store → Type 0
+SparesLedgers result f f' = result ≡ Err NoMemory → LedgersAndFaultsStay f f'
 
 -- each of these roots is settled
 abbrev pub AreSettled : (ℕ → Bool) → Store → Type 0

@@ -8,7 +8,7 @@ use account_core::RootSets;
 use keeper::FileRow;
 use message_names::{parse_name, size_of};
 use quota_roots::Roots;
-use quota_units::{MOST, Name, Totals, cut_sum};
+use quota_units::{MAX_SUM, Name, Totals, cut_sum};
 use std::alloc::{AllocError, Global};
 
 /// What the messages of a mailbox add up to: all messages, the messages with the flag T, and the
@@ -59,7 +59,7 @@ fn with_file(sums: MailboxSums, file: &FileRow) -> MailboxSums
     MailboxSums {
         all: cut_sum(sums.all, one),
         deleted: cut_sum(sums.deleted, counted(parts.flags.trashed, one)),
-        unseen: (sums.unseen + unseen(parts.flags.seen)).min(MOST),
+        unseen: (sums.unseen + unseen(parts.flags.seen)).min(MAX_SUM),
     }
 }
 

@@ -1,15 +1,15 @@
 // Deliveries. A delivery puts a message into its mailbox and writes its line into the ledger of
 // each root that governs the mailbox.
-ghost use Rattle.std.specs.Prelude.{◌≡◌, ◌<◌, ◌≤◌, ◌+◌, ◌^◌, ℕ, true, None, length, bytes_eq, IfOk};
+ghost use Rattle.std.specs.Prelude.{◌≡◌, ◌<◌, ◌≤◌, ◌+◌, ◌^◌, true, None, length, bytes_eq, IfOk};
 ghost use Rattle.std.specs.List.{list_any};
 ghost use Rattle.message_names.specs.Written.{written_name};
 ghost use Rattle.message_names.specs.Messages.{message_of};
-ghost use Rattle.message_names.specs.Sizes.{cut};
+ghost use Rattle.message_names.specs.Sizes.{cut_size};
 ghost use Rattle.account_core.specs.Account.{Account};
 ghost use Rattle.account_core.specs.Delivering.{delivered_base};
 ghost use Rattle.account_core.specs.Machine.{over_in};
 ghost use Rattle.account_ledger.specs.Lives.{Acts, IsShown, Shows, Steps, store_of};
-ghost use Rattle.account_ledger.specs.Settling.{LedgersAndFaultsStay};
+ghost use Rattle.account_ledger.specs.Settling.{SparesLedgers};
 ghost use Rattle.account_ledger.specs.NamedFiles.{IsDeliveryName};
 
 use crate::counts::Counts;
@@ -37,9 +37,8 @@ fn message_name(
         return Err(AllocError);
     };
     match print_name(alloc, base.as_slice(), octets, flags) {
-        Ok(name) => Ok(name),
-        Err(NameFault::NoMemory) => Err(AllocError),
         Err(NameFault::BadBase) => unreachable!(),
+        name => name.map_err(|_| AllocError),
     }
 }
 
@@ -105,8 +104,7 @@ impl<K: Keeper> LiveAccount<K> {
             → over_in self.old.roots account mailbox.now octets ≡ None }
         ensures acts { Acts
             (Call.Deliver mailbox.now octets flags) bytes.now result self.old self.new }
-        ensures spared { result ≡ Err StepError.NoMemory
-            → LedgersAndFaultsStay (store_of self.old) (store_of self.new) }
+        ensures spared { SparesLedgers result (store_of self.old) (store_of self.new) }
     {
         self.ledgers.show_kept();
         let number = self.counts.deliveries + 1;

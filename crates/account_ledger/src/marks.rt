@@ -3,7 +3,7 @@ ghost use Rattle.std.specs.Prelude.{◌≡◌, [], true, Some, bytes_eq, IfSome}
 ghost use Rattle.std.specs.List.{list_any};
 ghost use Rattle.keeper.specs.Files.{listed};
 ghost use Rattle.account_ledger.specs.Lives.{Acts, IsShown, Steps, store_of};
-ghost use Rattle.account_ledger.specs.Settling.{LedgersAndFaultsStay};
+ghost use Rattle.account_ledger.specs.Settling.{SparesLedgers};
 ghost use Rattle.account_ledger.specs.NamedFiles.{file_named};
 
 use crate::fault::step_error;
@@ -51,8 +51,7 @@ impl<K: Keeper> LiveAccount<K> {
         requires found { IfSome self.old.told
             (λ t. Some file.now ≡ file_named base.now (listed mailbox.now t.files.rows)) }
         ensures acts { Acts (Call.Mark mailbox.now base.now flags) [] result self.old self.new }
-        ensures spared { result ≡ Err StepError.NoMemory
-            → LedgersAndFaultsStay (store_of self.old) (store_of self.new) }
+        ensures spared { SparesLedgers result (store_of self.old) (store_of self.new) }
     {
         let name = file.name.as_slice();
         let Ok(marked) = with_flags(alloc, name, flags) else {

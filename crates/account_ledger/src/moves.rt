@@ -9,7 +9,7 @@ ghost use Rattle.account_core.specs.Machine.{over_of};
 ghost use Rattle.account_core.specs.Messages.{named_message};
 ghost use Rattle.account_ledger.specs.Lives.{Acts, IsShown, Shows, Steps, store_of};
 ghost use Rattle.account_ledger.specs.Messages.{message_in};
-ghost use Rattle.account_ledger.specs.Settling.{LedgersAndFaultsStay};
+ghost use Rattle.account_ledger.specs.Settling.{SparesLedgers};
 ghost use Rattle.account_ledger.specs.NamedFiles.{file_named};
 
 use crate::fault::step_error;
@@ -127,8 +127,7 @@ impl<K: Keeper> LiveAccount<K> {
             → over_of self.old.roots account (gaining self.old.roots from.now to.now)
             (message_in from.now file.now).octets ≡ None }
         ensures acts { Acts (Call.Move from.now base.now to.now) [] result self.old self.new }
-        ensures spared { result ≡ Err StepError.NoMemory
-            → LedgersAndFaultsStay (store_of self.old) (store_of self.new) }
+        ensures spared { SparesLedgers result (store_of self.old) (store_of self.new) }
     {
         self.ledgers.show_kept();
         let octets = size_of_file(file);

@@ -1,12 +1,13 @@
 // Finding the file of the message that a mailbox and a base name. The mailbox is listed each time,
 // because no list of messages is kept.
-ghost use Rattle.std.specs.Prelude.{◌≡◌, ◌≢◌, ◌<◌, ℕ, true, false, ◌&&◌, bytes_eq, length, IfOk, IfSome, IsErrOf};
+ghost use Rattle.std.specs.Prelude.{◌≡◌, ◌<◌, true, false, ◌&&◌, bytes_eq, length, IfOk, IfSome, IsErrOf};
 ghost use Rattle.quota_units.specs.Causes.{HasCause};
 ghost use Rattle.keeper.specs.Files.{listed, has_row};
-ghost use Rattle.keeper.specs.Calls.{Changes, Due, Renames};
+ghost use Rattle.keeper.specs.Calls.{Changes, Renames, SpendsDue, both};
 ghost use Rattle.account_ledger.specs.Counting.{mailbox_at};
 ghost use Rattle.account_ledger.specs.Lives.{IsWhole, Looks};
 ghost use Rattle.account_ledger.specs.NamedFiles.{file_named};
+ghost use Rattle.account_core.specs.History.{NeverFull};
 
 use crate::fault::step_error;
 use crate::live::LiveAccount;
@@ -30,14 +31,11 @@ impl<K: Keeper> LiveAccount<K> {
         ensures files { IfOk result
             (λ files. IfSome self.old.told (λ t. files.items ≡ listed mailbox.now t.files.rows)) }
         ensures whole { IsWhole self.new }
-        ensures never_full { (limit : ℕ) → result ≢ Err (StepError.JournalFull limit) }
+        ensures never_full { NeverFull result }
     {
         let listed = self.keeper.list(alloc, mailbox);
         self.show_whole();
-        match listed {
-            Ok(files) => Ok(files),
-            Err(fault) => Err(step_error(fault)),
-        }
+        listed.map_err(step_error)
     }
 
     /// The files of the mailbox at this place.
@@ -47,15 +45,12 @@ impl<K: Keeper> LiveAccount<K> {
         ensures files { IfOk result (λ files. IfSome self.old.told
             (λ t. files.items ≡ listed (mailbox_at self.old.mailboxes index) t.files.rows)) }
         ensures whole { IsWhole self.new }
-        ensures never_full { (limit : ℕ) → result ≢ Err (StepError.JournalFull limit) }
+        ensures never_full { NeverFull result }
     {
         let mailbox = &self.mailboxes.as_slice()[index as usize];
         let listed = self.keeper.list(alloc, mailbox.as_slice());
         self.show_whole();
-        match listed {
-            Ok(files) => Ok(files),
-            Err(fault) => Err(step_error(fault)),
-        }
+        listed.map_err(step_error)
     }
 
     /// Lists a mailbox and gives the file of the message of this base, if there is one.
@@ -69,7 +64,7 @@ impl<K: Keeper> LiveAccount<K> {
         ensures found { IfOk result (λ found. IfSome self.old.told
             (λ t. found ≡ file_named base.now (listed mailbox.now t.files.rows))) }
         ensures whole { IsWhole self.new }
-        ensures never_full { (limit : ℕ) → result ≢ Err (StepError.JournalFull limit) }
+        ensures never_full { NeverFull result }
     {
         let files = self.list(alloc, mailbox)?;
         Ok(first_named(files, base))
@@ -93,9 +88,8 @@ pub(crate) fn rename_file<K: Keeper>(
         (K.told keeper.old) (K.told keeper.new) }
     ensures cause { HasCause (IsErrOf result KeepError.Failed) (K.faults keeper.old)
         (K.faults keeper.new) }
-    ensures due { Due (IsErrOf result KeepError.Failed) (K.faults keeper.old)
-        (K.append_faults keeper.old) (K.faults keeper.new) (K.append_faults keeper.new)
-        (K.told keeper.old) (K.told keeper.new) }
+    ensures due { SpendsDue K.told (both K.faults K.append_faults) (IsErrOf result KeepError.Failed)
+        keeper.old keeper.new }
     ensures appends { K.append_faults keeper.new ≡ K.append_faults keeper.old }
 {
     if from == to && name == new_name {

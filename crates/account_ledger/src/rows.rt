@@ -3,6 +3,7 @@ ghost use Rattle.std.specs.Prelude.{◌≡◌, ◌<◌, ◌≤◌, [], take, len
 ghost use Rattle.quota_units.specs.Limiting.{AreLimits};
 ghost use Rattle.quota_units.specs.Sums.{AreSmall};
 ghost use Rattle.account_ledger.specs.Rows.{kept_row, kept_rows, totals_of};
+ghost use Rattle.root_ledgers.specs.Settling.{AreSmallBooks};
 
 use account_core::{RootRow, RootRows};
 use quota_roots::Roots;
@@ -50,7 +51,7 @@ pub(crate) fn rows_of(
 /// The totals of each root, and zeros after the last root.
 pub(crate) fn totals_of(books: &[Book]) -> [Totals; 4]
     requires few { length books.now ≤ 4 }
-    requires small { All (λ book. AreSmall book.totals) books.now }
+    requires small { AreSmallBooks books.now }
     ensures value { take (length books.now) result ≡ totals_of books.now }
     ensures small { All AreSmall result }
 {

@@ -1,5 +1,5 @@
 // Settling the roots of a live account, and judging by their usage whether a message fits them.
-ghost use Rattle.std.specs.Prelude.{◌≡◌, ◌≢◌, ◌<◌, ℕ, length, nat_eq, All, IfOk, OnOk, IsErr};
+ghost use Rattle.std.specs.Prelude.{◌≡◌, ◌<◌, length, nat_eq, All, IfOk, OnOk, IsErr};
 ghost use Rattle.quota_roots.specs.RootSets.{has_root};
 ghost use Rattle.account_core.specs.Account.{Account};
 ghost use Rattle.account_core.specs.Machine.{over_of};
@@ -7,8 +7,9 @@ ghost use Rattle.root_ledgers.specs.declared.book.Standing.TheVariants.{Settled}
 ghost use Rattle.root_ledgers.specs.Settling.{StaysInDoubt, book_at};
 ghost use Rattle.account_ledger.specs.Rows.{IsInside, IsVerdict};
 ghost use Rattle.account_ledger.specs.Stores.{usage_at};
-ghost use Rattle.account_ledger.specs.Settling.{AreSettled, LedgersStay, LedgersAndFaultsStay};
+ghost use Rattle.account_ledger.specs.Settling.{AreSettled, LedgersStay, SparesLedgers};
 ghost use Rattle.account_ledger.specs.Lives.{IsWhole, Prepares, Shows, store_of};
+ghost use Rattle.account_core.specs.History.{NeverFull};
 
 use crate::fault::step_error;
 use crate::live::LiveAccount;
@@ -17,7 +18,7 @@ use account_core::StepError;
 use admission::{Verdict, admit};
 use keeper::Keeper;
 use quota_roots::RootSet;
-use quota_units::{MOST, Totals};
+use quota_units::{MAX_SUM, Totals};
 use std::alloc::Global;
 
 impl<K: Keeper> LiveAccount<K> {
@@ -33,10 +34,9 @@ impl<K: Keeper> LiveAccount<K> {
             (has_root set) self.old self.new }
         ensures settled { OnOk result (AreSettled (has_root set) (store_of self.new)) }
         ensures failed { result ≡ Err StepError.Store → StaysInDoubt (has_root set) self.new.books }
-        ensures spared { result ≡ Err StepError.NoMemory
-            → LedgersAndFaultsStay (store_of self.old) (store_of self.new) }
+        ensures spared { SparesLedgers result (store_of self.old) (store_of self.new) }
         ensures whole { IsWhole self.new }
-        ensures never_full { (limit : ℕ) → result ≢ Err (StepError.JournalFull limit) }
+        ensures never_full { NeverFull result }
     {
         // What is known of the ledgers before they are settled.
         self.ledgers.show_kept();
@@ -48,10 +48,7 @@ impl<K: Keeper> LiveAccount<K> {
             set,
         );
         self.show_whole();
-        match settled {
-            Ok(()) => Ok(()),
-            Err(fault) => Err(step_error(fault)),
-        }
+        settled.map_err(step_error)
     }
 
     /// Settles the root of this number if it is in doubt, and gives its usage.
@@ -68,10 +65,9 @@ impl<K: Keeper> LiveAccount<K> {
         ensures usage { IfOk result (λ totals. (account : Account) → Shows self.old account
             → totals ≡ usage_at self.old.roots root account) }
         ensures stays { IsErr result → LedgersStay (store_of self.old) (store_of self.new) }
-        ensures spared { result ≡ Err StepError.NoMemory
-            → LedgersAndFaultsStay (store_of self.old) (store_of self.new) }
+        ensures spared { SparesLedgers result (store_of self.old) (store_of self.new) }
         ensures whole { IsWhole self.new }
-        ensures never_full { (limit : ℕ) → result ≢ Err (StepError.JournalFull limit) }
+        ensures never_full { NeverFull result }
     {
         self.show_whole();
         self.settle(alloc, RootSet::one(root))?;
@@ -99,8 +95,8 @@ impl<K: Keeper> LiveAccount<K> {
         self.ledgers.show_kept();
         let totals = totals_of(self.ledgers.books());
         show_limits(self.ledgers.limits());
-        // Every limit is below MOST, so cutting the octets at MOST does not change the verdict.
-        let octets = octets.min(MOST);
+        // Limits are below MAX_SUM, so octets that are cut at MAX_SUM get the same verdict.
+        let octets = octets.min(MAX_SUM);
         let count = self.ledgers.books().len();
         admit(self.ledgers.limits(), &totals[..count], set, octets)
     }

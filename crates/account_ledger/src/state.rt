@@ -1,18 +1,19 @@
 // The state of an account.
-ghost use Rattle.std.specs.Prelude.{◌≡◌, ◌≢◌, ◌<◌, ◌↔◌, ℕ, nat_eq, IsTrue, length, IfOk, IfErr, OnOk, IsErr};
+ghost use Rattle.std.specs.Prelude.{◌≡◌, ◌<◌, ◌↔◌, ℕ, nat_eq, IsTrue, length, IfOk, IfErr, OnOk, IsErr};
 ghost use Rattle.quota_units.specs.Causes.{HasCause, Rose};
 ghost use Rattle.quota_roots.specs.Setups.{IsSound};
-ghost use Rattle.keeper.specs.Calls.{Changes, Due, OnFiles};
+ghost use Rattle.keeper.specs.Calls.{Changes, Due, OnFiles, SpendsDue, both};
 ghost use Rattle.account_core.specs.Forms.{HasForm};
 ghost use Rattle.account_core.specs.Legality.{HasBytes, MayBeAsked};
 ghost use Rattle.account_core.specs.Logs.{Serves};
 ghost use Rattle.account_opening.specs.Admitting.{IsRefused, MayOpen};
 ghost use Rattle.root_ledgers.specs.declared.book.Standing.TheVariants.{Settled};
 ghost use Rattle.account_ledger.specs.Performing.{ListsFor, PerformsLedgers, PerformsRows, UsesDue};
-ghost use Rattle.account_ledger.specs.Settling.{LedgersStay, SettlesSome, LedgersAndFaultsStay};
+ghost use Rattle.account_ledger.specs.Settling.{LedgersStay, SettlesSome, SparesLedgers};
 ghost use Rattle.account_ledger.specs.States.{IsAccount, IsInOrder, IsOpened, OfAccount, Opened, ServesNext, entry_fault};
 ghost use Rattle.account_ledger.specs.Stores.{NoneFalls, standing_at, usage_at};
 ghost use Rattle.account_ledger.specs.Writing.{Spares};
+ghost use Rattle.account_core.specs.History.{NeverFull};
 
 use crate::counts::Counts;
 use crate::live::LiveAccount;
@@ -113,9 +114,8 @@ impl<K: Keeper> AccountState<K> {
             (λ fault. K.append_faults fault.keeper ≡ K.append_faults keeper) }
         ensures due { IfOk result (λ state. Due ⊥ (K.faults keeper) (K.append_faults keeper)
             state.store.faults state.store.append_faults (K.told keeper) state.store.told) }
-        ensures due_then { IfErr result (λ fault. Due (fault.cause ≡ OpenError.Store)
-            (K.faults keeper) (K.append_faults keeper) (K.faults fault.keeper)
-            (K.append_faults fault.keeper) (K.told keeper) (K.told fault.keeper)) }
+        ensures due_then { IfErr result (λ fault. SpendsDue K.told (both K.faults K.append_faults)
+            (fault.cause ≡ OpenError.Store) keeper fault.keeper) }
     {
         let mut keeper = keeper;
         let opened = Snapshot::of(&keeper);
@@ -304,14 +304,11 @@ impl<K: Keeper> AccountState<K> {
         ensures settles { SettlesSome (IsAccount self.old)
             (nat_eq root) self.old.store self.new.store }
         ensures stays { IsErr result → LedgersStay self.old.store self.new.store }
-        ensures spared { result ≡ Err StepError.NoMemory
-            → LedgersAndFaultsStay self.old.store self.new.store }
-        ensures due { Due (result ≡ Err StepError.Store) self.old.store.faults
-            self.old.store.append_faults self.new.store.faults self.new.store.append_faults
-            self.old.store.told self.new.store.told }
+        ensures spared { SparesLedgers result self.old.store self.new.store }
+        ensures due { UsesDue result self.old.store self.new.store }
         ensures cause { HasCause
             (result ≡ Err StepError.Store) self.old.store.faults self.new.store.faults }
-        ensures never_full { (limit : ℕ) → result ≢ Err (StepError.JournalFull limit) }
+        ensures never_full { NeverFull result }
         ensures order { IsInOrder self.new }
     {
         self.live.show_whole();

@@ -50,7 +50,7 @@ impl<V: Booked> Turn<'_, V> {
             × ((view self.exit.0.now).mine ≡ (view_in self.entry).mine ++ e ∷ []) }
         ensures seen { (view self.exit.0.now).seen ≡ V.history (value_in self.entry) }
         ensures own { (view self.exit.0.now).own ≡ (view_in self.entry).own + 1 }
-        ensures same { ((view self.exit.0.now).origin ≡ (view_in self.entry).origin)
+        ensures identity { ((view self.exit.0.now).origin ≡ (view_in self.entry).origin)
             × ((view self.exit.0.now).number ≡ (view_in self.entry).number)
             × ((view self.exit.0.now).held ≡ (view_in self.entry).held)
             × ((view self.exit.0.now).olds ≡ (view_in self.entry).olds)

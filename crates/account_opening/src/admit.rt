@@ -1,7 +1,7 @@
 // Whether an account may be opened, and with which limits.
-ghost use Rattle.std.specs.Prelude.{◌+◌, ◌≡◌, ◌≤◌, length, IfOk};
+ghost use Rattle.std.specs.Prelude.{◌≡◌, ◌≤◌, length, IfOk};
 ghost use Rattle.quota_units.specs.Causes.{HasCause};
-ghost use Rattle.keeper.specs.Calls.{Changes, Spends};
+ghost use Rattle.keeper.specs.Calls.{Changes, SpendsDue, both};
 ghost use Rattle.account_opening.specs.Admitting.{Admits, IsJudged};
 
 use crate::OpenError;
@@ -61,9 +61,8 @@ pub fn admit_files<K: Keeper>(
     ensures count { IfOk result (λ limits. length limits.items ≡ length setup.now.limits) }
     ensures cause { HasCause (result ≡ Err OpenError.Store) (K.faults keeper.old)
         (K.faults keeper.new) }
-    ensures due { Changes (Spends (result ≡ Err OpenError.Store) (K.faults keeper.old
-        + K.append_faults keeper.old) (K.faults keeper.new + K.append_faults keeper.new))
-        (K.told keeper.old) (K.told keeper.new) }
+    ensures due { SpendsDue K.told (both K.faults K.append_faults) (result ≡ Err OpenError.Store)
+        keeper.old keeper.new }
     ensures appends { K.append_faults keeper.new ≡ K.append_faults keeper.old }
 {
     let found = find(alloc, keeper, setup.mailboxes.as_slice(), epoch)?;

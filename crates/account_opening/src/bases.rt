@@ -5,7 +5,7 @@ ghost use Rattle.account_opening.specs.Bases.{AreApart, AreCounted, base_in, dou
 
 use keeper::FileRow;
 use message_names::base_of;
-use quota_units::{Name, NameError};
+use quota_units::Name;
 use std::alloc::{AllocError, Global};
 use std::collections::BTreeMap;
 
@@ -94,13 +94,10 @@ pub(crate) fn used_in(
 }
 
 /// A base as a refusal names it: at most the first 255 bytes of it.
+#[tactic(auto, using(crate::proofs::OpeningLemmas::shown_is))]
 fn show(alloc: Global, base: &[u8]) -> Result<Name, AllocError>
     ensures { IfOk result (λ name. name ≡ shown base.now) }
 {
     let end = base.len().min(255);
-    match Name::of(alloc, &base[..end]) {
-        Ok(name) => Ok(name),
-        Err(NameError::NoMemory) => Err(AllocError),
-        Err(NameError::TooLong { .. }) => unreachable!(),
-    }
+    Name::of_short(alloc, &base[..end]).map_err(|_| AllocError)
 }

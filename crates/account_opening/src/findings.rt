@@ -1,8 +1,8 @@
 // Looking for what prevents opening an account, mailbox by mailbox. The listing of a mailbox is
 // dropped before the next mailbox is listed.
-ghost use Rattle.std.specs.Prelude.{◌+◌, ◌≡◌, ◌++◌, codes, decimal, IfOk, IsErrOf};
+ghost use Rattle.std.specs.Prelude.{◌≡◌, ◌++◌, codes, decimal, IfOk, IsErrOf};
 ghost use Rattle.quota_units.specs.Causes.{HasCause};
-ghost use Rattle.keeper.specs.Calls.{Changes, Spends};
+ghost use Rattle.keeper.specs.Calls.{Changes, SpendsDue, both};
 ghost use Rattle.account_opening.specs.Bases.{no_findings, with_files_of};
 ghost use Rattle.account_opening.specs.Admitting.{Finds};
 
@@ -77,9 +77,8 @@ pub(crate) fn find<K: Keeper>(
         (K.told keeper.new) }
     ensures cause { HasCause (IsErrOf result KeepError.Failed) (K.faults keeper.old)
         (K.faults keeper.new) }
-    ensures due { Changes (Spends (IsErrOf result KeepError.Failed) (K.faults keeper.old
-        + K.append_faults keeper.old) (K.faults keeper.new + K.append_faults keeper.new))
-        (K.told keeper.old) (K.told keeper.new) }
+    ensures due { SpendsDue K.told (both K.faults K.append_faults) (IsErrOf result KeepError.Failed)
+        keeper.old keeper.new }
     ensures appends { K.append_faults keeper.new ≡ K.append_faults keeper.old }
 {
     let prefix = format!(in alloc; "{epoch}.")?;

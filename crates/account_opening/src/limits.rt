@@ -1,8 +1,8 @@
 // The limits that ledgers define.
-ghost use Rattle.std.specs.Prelude.{◌+◌, ◌≡◌, ◌≤◌, length, IfOk, IsErrOf};
+ghost use Rattle.std.specs.Prelude.{◌≡◌, ◌≤◌, length, IfOk, IsErrOf};
 ghost use Rattle.std.specs.Option.{option_map};
 ghost use Rattle.quota_units.specs.Causes.{HasCause};
-ghost use Rattle.keeper.specs.Calls.{Changes, Spends};
+ghost use Rattle.keeper.specs.Calls.{Changes, SpendsDue, both};
 ghost use Rattle.account_opening.specs.Limits.{ReadsLimits, limits_of_ledger};
 
 use keeper::{KeepError, Keeper};
@@ -22,9 +22,8 @@ pub(crate) fn read_limits<K: Keeper>(
     ensures count { IfOk result (λ limits. length limits.items ≡ length own.now) }
     ensures cause { HasCause (IsErrOf result KeepError.Failed) (K.faults keeper.old)
         (K.faults keeper.new) }
-    ensures due { Changes (Spends (IsErrOf result KeepError.Failed) (K.faults keeper.old
-        + K.append_faults keeper.old) (K.faults keeper.new + K.append_faults keeper.new))
-        (K.told keeper.old) (K.told keeper.new) }
+    ensures due { SpendsDue K.told (both K.faults K.append_faults) (IsErrOf result KeepError.Failed)
+        keeper.old keeper.new }
     ensures appends { K.append_faults keeper.new ≡ K.append_faults keeper.old }
 {
     let mut limits = Vec::new(alloc);

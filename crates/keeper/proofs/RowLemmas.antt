@@ -21,7 +21,7 @@ removed_at mailbox name rows at found =
     ∙ sym (removed_by_place mailbox name rows)
 
 removed_past : (rows : List Row) (n : ℕ) → length rows ≤ n → remove rows n ≡ rows
-removed_past rows n past = let further : length rows ≤ suc n = omega arith in ap (λ (front : List Row). front ++ drop (suc n) rows) (take_all n rows past) ∙ ap (λ (back : List Row). rows ++ back) (drop_of_length-le rows further) ∙ append-nil rows
+removed_past rows n past = let further : length rows ≤ suc n = omega arith in ap (λ (prefix : List Row). prefix ++ drop (suc n) rows) (take_all n rows past) ∙ ap (λ (back : List Row). rows ++ back) (drop_of_length-le rows further) ∙ append-nil rows
 
 pub removed_nowhere : (mailbox name : List ℕ) (rows : List Row) → None ≡ position (is_named mailbox name) rows → rows ≡ removed mailbox name rows
 removed_nowhere mailbox name rows nowhere =

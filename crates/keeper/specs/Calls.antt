@@ -3,6 +3,8 @@
 use Rattle.std.specs.Prelude.{◌≡◌, ◌≢◌, ◌+◌, ◌≤◌, ◌<◌, ℕ, Vec, List, [], ◌∷◌, ◌++◌, Option, Some, None, Result, Ok, Err, ⊤}
 use Rattle.std.specs.Option.{option_map}
 use Rattle.keeper.specs.declared.rows.FileRow.{FileRow}
+use Rattle.keeper.specs.declared.failed.KeepError.{KeepError}
+use Rattle.keeper.specs.declared.failed.KeepError.TheVariants.{Failed}
 use Rattle.keeper.specs.Files.{Files, ButLedgers, listed, removed, renamed, ledger_at, ledger_bytes}
 
 -- what a keeper tells contracts: its files, and how many failures of its calls may still come
@@ -24,6 +26,21 @@ pub record Spends (failed : Type 0) (before now : ℕ) (told told' : Told) : Typ
   pub fewer : failed → told'.due < told.due
   pub bounded : now + told'.due ≤ before + told.due
 
+-- a call of a keeper whose failures are counted by this count: if the call failed, it used up a
+-- failure that was due
+abbrev pub SpendsDue : {K : Type 0} → (told : K → Option Told) → (faults : K → ℕ)
+    → (failed : Type 0) → K → K → Type 0
+SpendsDue told faults failed keeper keeper' =
+    Changes (Spends failed (faults keeper) (faults keeper')) (told keeper) (told keeper')
+
+-- a call after which no more failures are due than before; it does not say whether it failed
+abbrev pub AddsNoDue : {K : Type 0} → (told : K → Option Told) → (faults : K → ℕ) → K → K → Type 0
+AddsNoDue told faults keeper keeper' = SpendsDue told faults ⊥ keeper keeper'
+
+-- both counts of faults of a keeper, added up
+abbrev pub both : {K : Type 0} → (faults appends : K → ℕ) → K → ℕ
+both faults appends keeper = faults keeper + appends keeper
+
 -- the same for work that may fail in an append or in another call: both counts of faults, added up
 abbrev pub Due : (failed : Type 0) → (faults appends faults' appends' : ℕ)
     → Option Told → Option Told → Type 0
@@ -33,6 +50,10 @@ Due failed faults appends faults' appends' told told' =
 -- a change of the files that a keeper tells
 abbrev pub OnFiles : (Files → Files → Type 0) → Told → Told → Type 0
 OnFiles R told told' = R told.files told'.files
+
+-- the answer is never that the store failed
+abbrev pub NeverFails : {T : Type 0} → Result T KeepError → Type 0
+NeverFails result = result ≢ Err Failed
 
 -- list: the files of the mailbox
 abbrev pub Lists : {A E : Type 0} → List ℕ → Result (Vec FileRow A) E → Told → Told → Type 0
@@ -81,8 +102,8 @@ Writes root bytes files files' = OneLedger root files files' × (ledger_at files
 
 -- a prefix of the line comes after the ledger's bytes now, and nothing else has changed
 abbrev pub Tears : ℕ → List ℕ → Files → Files → Type 0
-Tears root line files files' = OneLedger root files files' × ((front rest : List ℕ)
-    × (line ≡ front ++ rest) × (ledger_bytes files' root ≡ ledger_bytes files root ++ front))
+Tears root line files files' = OneLedger root files files' × ((prefix rest : List ℕ)
+    × (line ≡ prefix ++ rest) × (ledger_bytes files' root ≡ ledger_bytes files root ++ prefix))
 
 -- append_ledger: the line comes after the ledger's bytes, or a prefix of the line if the call
 -- failed

@@ -1,7 +1,7 @@
-ghost use Rattle.std.specs.Prelude.{◌≡◌, ◌≢◌, ◌<◌, ◌+◌, Some, length, IfOk, IsOk, IsErr, IsErrOf};
+ghost use Rattle.std.specs.Prelude.{◌≡◌, ◌<◌, ◌+◌, Some, length, IfOk, IsOk, IsErr, IsErrOf};
 ghost use Rattle.quota_units.specs.Causes.{HasCause, next_count};
 ghost use Rattle.keeper.specs.Files.{ledger_bytes, no_files};
-ghost use Rattle.keeper.specs.Calls.{Changes, Spends, Lists, Puts, Renames, Removes, ReadsLedger, Appends, Installs};
+ghost use Rattle.keeper.specs.Calls.{NeverFails, Spends, Lists, Puts, Renames, Removes, ReadsLedger, Appends, Installs};
 ghost use Rattle.keeper.specs.Memory.{told_of_fixed};
 
 use crate::files::MemFiles;
@@ -52,13 +52,12 @@ impl Keeper for FixedKeeper {
     ghost lists = { λ k. k.lists };
 
     fn list(&mut self, alloc: Global, mailbox: &[u8]) -> Result<Vec<FileRow>, KeepError>
-        ensures files { Changes (Lists mailbox.now result) (Some (told_of_fixed self.old))
-            (Some (told_of_fixed self.new)) }
+        ensures files { Lists mailbox.now result (told_of_fixed self.old) (told_of_fixed self.new) }
         ensures cause { HasCause (IsErrOf result KeepError.Failed) 0 0 }
-        ensures due { Changes (Spends (IsErrOf result KeepError.Failed) 0 0)
-            (Some (told_of_fixed self.old)) (Some (told_of_fixed self.new)) }
-        ensures listings { self.new.lists ≡ next_count self.old.lists }
-        ensures works { result ≢ Err KeepError.Failed }
+        ensures due { Spends (IsErrOf result KeepError.Failed) 0 0 (told_of_fixed self.old)
+            (told_of_fixed self.new) }
+        ensures one_listing { self.new.lists ≡ next_count self.old.lists }
+        ensures works { NeverFails result }
     {
         self.lists = self.lists.saturating_add(1);
         Ok(self.files.list(alloc, mailbox)?)
@@ -71,13 +70,13 @@ impl Keeper for FixedKeeper {
         name: &[u8],
         octets: &[u8],
     ) -> Result<(), KeepError>
-        ensures files { Changes (Puts mailbox.now name.now octets.now result)
-            (Some (told_of_fixed self.old)) (Some (told_of_fixed self.new)) }
+        ensures files { Puts mailbox.now name.now octets.now result (told_of_fixed self.old)
+            (told_of_fixed self.new) }
         ensures cause { HasCause (IsErrOf result KeepError.Failed) 0 0 }
-        ensures due { Changes (Spends (IsErrOf result KeepError.Failed) 0 0)
-            (Some (told_of_fixed self.old)) (Some (told_of_fixed self.new)) }
+        ensures due { Spends (IsErrOf result KeepError.Failed) 0 0 (told_of_fixed self.old)
+            (told_of_fixed self.new) }
         ensures listings { self.new.lists ≡ self.old.lists }
-        ensures works { result ≢ Err KeepError.Failed }
+        ensures works { NeverFails result }
     {
         Ok(self.files.put(alloc, mailbox, name, octets)?)
     }
@@ -90,23 +89,22 @@ impl Keeper for FixedKeeper {
         to: &[u8],
         new_name: &[u8],
     ) -> Result<(), KeepError>
-        ensures files { Changes (Renames from.now name.now to.now new_name.now result)
-            (Some (told_of_fixed self.old)) (Some (told_of_fixed self.new)) }
+        ensures files { Renames from.now name.now to.now new_name.now result
+            (told_of_fixed self.old) (told_of_fixed self.new) }
         ensures cause { HasCause (IsErrOf result KeepError.Failed) 0 0 }
-        ensures due { Changes (Spends (IsErrOf result KeepError.Failed) 0 0)
-            (Some (told_of_fixed self.old)) (Some (told_of_fixed self.new)) }
+        ensures due { Spends (IsErrOf result KeepError.Failed) 0 0 (told_of_fixed self.old)
+            (told_of_fixed self.new) }
         ensures listings { self.new.lists ≡ self.old.lists }
-        ensures works { result ≢ Err KeepError.Failed }
+        ensures works { NeverFails result }
     {
         Ok(self.files.rename(alloc, from, name, to, new_name)?)
     }
 
     fn remove(&mut self, mailbox: &[u8], name: &[u8]) -> Result<(), Failed>
-        ensures files { Changes (Removes mailbox.now name.now result)
-            (Some (told_of_fixed self.old)) (Some (told_of_fixed self.new)) }
+        ensures files { Removes mailbox.now name.now result (told_of_fixed self.old)
+            (told_of_fixed self.new) }
         ensures cause { HasCause (IsErr result) 0 0 }
-        ensures due { Changes (Spends (IsErr result) 0 0) (Some (told_of_fixed self.old))
-            (Some (told_of_fixed self.new)) }
+        ensures due { Spends (IsErr result) 0 0 (told_of_fixed self.old) (told_of_fixed self.new) }
         ensures listings { self.new.lists ≡ self.old.lists }
         ensures works { IsOk result }
     {
@@ -116,13 +114,12 @@ impl Keeper for FixedKeeper {
 
     fn read_ledger(&mut self, alloc: Global, root: u32) -> Result<Option<Vec<u8>>, KeepError>
         requires { root < 4 }
-        ensures files { Changes (ReadsLedger root result) (Some (told_of_fixed self.old))
-            (Some (told_of_fixed self.new)) }
+        ensures files { ReadsLedger root result (told_of_fixed self.old) (told_of_fixed self.new) }
         ensures cause { HasCause (IsErrOf result KeepError.Failed) 0 0 }
-        ensures due { Changes (Spends (IsErrOf result KeepError.Failed) 0 0)
-            (Some (told_of_fixed self.old)) (Some (told_of_fixed self.new)) }
+        ensures due { Spends (IsErrOf result KeepError.Failed) 0 0 (told_of_fixed self.old)
+            (told_of_fixed self.new) }
         ensures listings { self.new.lists ≡ self.old.lists }
-        ensures works { result ≢ Err KeepError.Failed }
+        ensures works { NeverFails result }
     {
         Ok(self.files.read_ledger(alloc, root)?)
     }
@@ -130,11 +127,10 @@ impl Keeper for FixedKeeper {
     fn append_ledger(&mut self, root: u32, line: &[u8]) -> Result<(), Failed>
         requires root { root < 4 }
         requires room { length (ledger_bytes self.old.files root) + length line.now < 5120 }
-        ensures files { Changes (Appends root line.now result) (Some (told_of_fixed self.old))
-            (Some (told_of_fixed self.new)) }
+        ensures files { Appends root line.now result (told_of_fixed self.old)
+            (told_of_fixed self.new) }
         ensures cause { HasCause (IsErr result) 0 0 }
-        ensures due { Changes (Spends (IsErr result) 0 0) (Some (told_of_fixed self.old))
-            (Some (told_of_fixed self.new)) }
+        ensures due { Spends (IsErr result) 0 0 (told_of_fixed self.old) (told_of_fixed self.new) }
         ensures listings { self.new.lists ≡ self.old.lists }
         ensures works { IsOk result }
     {
@@ -145,11 +141,10 @@ impl Keeper for FixedKeeper {
     fn install_ledger(&mut self, root: u32, text: &[u8]) -> Result<(), Failed>
         requires root { root < 4 }
         requires short { length text.now < 5120 }
-        ensures files { Changes (Installs root text.now result) (Some (told_of_fixed self.old))
-            (Some (told_of_fixed self.new)) }
+        ensures files { Installs root text.now result (told_of_fixed self.old)
+            (told_of_fixed self.new) }
         ensures cause { HasCause (IsErr result) 0 0 }
-        ensures due { Changes (Spends (IsErr result) 0 0) (Some (told_of_fixed self.old))
-            (Some (told_of_fixed self.new)) }
+        ensures due { Spends (IsErr result) 0 0 (told_of_fixed self.old) (told_of_fixed self.new) }
         ensures listings { self.new.lists ≡ self.old.lists }
         ensures works { IsOk result }
     {

@@ -1,7 +1,7 @@
 ghost use Rattle.std.specs.Prelude.{◌≡◌, ◌<◌, ◌+◌, ℕ, length, false, true, Option, IfSome, IsErr, IsErrOf};
 ghost use Rattle.keeper.specs.Files.{has_row, ledger_bytes};
 ghost use Rattle.quota_units.specs.Causes.{HasCause, next_count};
-ghost use Rattle.keeper.specs.Calls.{Told, Changes, Spends, Lists, Puts, Renames, Removes, ReadsLedger, Appends, Installs};
+ghost use Rattle.keeper.specs.Calls.{Told, Changes, SpendsDue, Lists, Puts, Renames, Removes, ReadsLedger, Appends, Installs};
 
 use crate::{FileRow, KeepError};
 use quota_units::Failed;
@@ -34,10 +34,9 @@ pub trait Keeper {
         ensures files { Changes (Lists mailbox.now result) (told self.old) (told self.new) }
         ensures cause { HasCause (IsErrOf result KeepError.Failed) (faults self.old)
             (faults self.new) }
-        ensures due { Changes (Spends (IsErrOf result KeepError.Failed) (faults self.old)
-            (faults self.new)) (told self.old) (told self.new) }
+        ensures due { SpendsDue told faults (IsErrOf result KeepError.Failed) self.old self.new }
         ensures appends { append_faults self.new ≡ append_faults self.old }
-        ensures listings { lists self.new ≡ next_count (lists self.old) };
+        ensures one_listing { lists self.new ≡ next_count (lists self.old) };
 
     /// Adds a file with these octets to a mailbox that has no file of this name.
     ///
@@ -56,8 +55,7 @@ pub trait Keeper {
             (told self.new) }
         ensures cause { HasCause (IsErrOf result KeepError.Failed) (faults self.old)
             (faults self.new) }
-        ensures due { Changes (Spends (IsErrOf result KeepError.Failed) (faults self.old)
-            (faults self.new)) (told self.old) (told self.new) }
+        ensures due { SpendsDue told faults (IsErrOf result KeepError.Failed) self.old self.new }
         ensures appends { append_faults self.new ≡ append_faults self.old }
         ensures listings { lists self.new ≡ lists self.old };
 
@@ -83,8 +81,7 @@ pub trait Keeper {
             (told self.old) (told self.new) }
         ensures cause { HasCause (IsErrOf result KeepError.Failed) (faults self.old)
             (faults self.new) }
-        ensures due { Changes (Spends (IsErrOf result KeepError.Failed) (faults self.old)
-            (faults self.new)) (told self.old) (told self.new) }
+        ensures due { SpendsDue told faults (IsErrOf result KeepError.Failed) self.old self.new }
         ensures appends { append_faults self.new ≡ append_faults self.old }
         ensures listings { lists self.new ≡ lists self.old };
 
@@ -99,8 +96,7 @@ pub trait Keeper {
         ensures files { Changes (Removes mailbox.now name.now result) (told self.old)
             (told self.new) }
         ensures cause { HasCause (IsErr result) (faults self.old) (faults self.new) }
-        ensures due { Changes (Spends (IsErr result) (faults self.old) (faults self.new))
-            (told self.old) (told self.new) }
+        ensures due { SpendsDue told faults (IsErr result) self.old self.new }
         ensures appends { append_faults self.new ≡ append_faults self.old }
         ensures listings { lists self.new ≡ lists self.old };
 
@@ -115,8 +111,7 @@ pub trait Keeper {
         ensures files { Changes (ReadsLedger root result) (told self.old) (told self.new) }
         ensures cause { HasCause (IsErrOf result KeepError.Failed) (faults self.old)
             (faults self.new) }
-        ensures due { Changes (Spends (IsErrOf result KeepError.Failed) (faults self.old)
-            (faults self.new)) (told self.old) (told self.new) }
+        ensures due { SpendsDue told faults (IsErrOf result KeepError.Failed) self.old self.new }
         ensures appends { append_faults self.new ≡ append_faults self.old }
         ensures listings { lists self.new ≡ lists self.old };
 
@@ -133,8 +128,7 @@ pub trait Keeper {
             (λ t. length (ledger_bytes t.files root) + length line.now < 5120) }
         ensures files { Changes (Appends root line.now result) (told self.old) (told self.new) }
         ensures cause { HasCause (IsErr result) (append_faults self.old) (append_faults self.new) }
-        ensures due { Changes (Spends (IsErr result) (append_faults self.old)
-            (append_faults self.new)) (told self.old) (told self.new) }
+        ensures due { SpendsDue told append_faults (IsErr result) self.old self.new }
         ensures others { faults self.new ≡ faults self.old }
         ensures listings { lists self.new ≡ lists self.old };
 
@@ -149,8 +143,7 @@ pub trait Keeper {
         requires short { length text.now < 5120 }
         ensures files { Changes (Installs root text.now result) (told self.old) (told self.new) }
         ensures cause { HasCause (IsErr result) (faults self.old) (faults self.new) }
-        ensures due { Changes (Spends (IsErr result) (faults self.old) (faults self.new))
-            (told self.old) (told self.new) }
+        ensures due { SpendsDue told faults (IsErr result) self.old self.new }
         ensures appends { append_faults self.new ≡ append_faults self.old }
         ensures listings { lists self.new ≡ lists self.old };
 }

@@ -1,7 +1,7 @@
 ghost use Rattle.std.specs.Prelude.{◌≡◌, ◌<◌, ◌≤◌, ◌+◌, ◌/◌, ◌↔◌, ◌++◌, Some, length, take, vec_len, IsErr, IsErrOf, IsTrue, IfOk, OnErr};
 ghost use Rattle.quota_units.specs.Causes.{HasCause, next_count};
 ghost use Rattle.keeper.specs.Files.{four_ledgers, ledger_at, ledger_bytes};
-ghost use Rattle.keeper.specs.Calls.{Changes, Spends, Lists, Puts, Renames, Removes, ReadsLedger, Appends, Installs};
+ghost use Rattle.keeper.specs.Calls.{Spends, Lists, Puts, Renames, Removes, ReadsLedger, Appends, Installs};
 ghost use Rattle.keeper.specs.Plan.{fails_next, plan_after, new_plan};
 ghost use Rattle.keeper.specs.Memory.{told_of};
 
@@ -86,14 +86,13 @@ impl Keeper for MemKeeper {
     ghost lists = { λ k. k.plan.made.list };
 
     fn list(&mut self, alloc: Global, mailbox: &[u8]) -> Result<Vec<FileRow>, KeepError>
-        ensures files { Changes (Lists mailbox.now result) (Some (told_of self.old))
-            (Some (told_of self.new)) }
+        ensures files { Lists mailbox.now result (told_of self.old) (told_of self.new) }
         ensures cause { HasCause
             (IsErrOf result KeepError.Failed) self.old.plan.faults self.new.plan.faults }
-        ensures due { Changes (Spends (IsErrOf result KeepError.Failed) self.old.plan.faults
-            self.new.plan.faults) (Some (told_of self.old)) (Some (told_of self.new)) }
+        ensures due { Spends (IsErrOf result KeepError.Failed) self.old.plan.faults
+            self.new.plan.faults (told_of self.old) (told_of self.new) }
         ensures appends { self.new.plan.append_faults ≡ self.old.plan.append_faults }
-        ensures listings { self.new.plan.made.list ≡ next_count self.old.plan.made.list }
+        ensures one_listing { self.new.plan.made.list ≡ next_count self.old.plan.made.list }
         ensures fails { (IsErrOf result KeepError.Failed)
             ↔ IsTrue (fails_next KeepCall.List self.old.plan) }
         ensures plan { self.new.plan ≡ plan_after KeepCall.List self.old.plan }
@@ -109,12 +108,12 @@ impl Keeper for MemKeeper {
         name: &[u8],
         octets: &[u8],
     ) -> Result<(), KeepError>
-        ensures files { Changes (Puts mailbox.now name.now octets.now result)
-            (Some (told_of self.old)) (Some (told_of self.new)) }
+        ensures files { Puts mailbox.now name.now octets.now result (told_of self.old)
+            (told_of self.new) }
         ensures cause { HasCause
             (IsErrOf result KeepError.Failed) self.old.plan.faults self.new.plan.faults }
-        ensures due { Changes (Spends (IsErrOf result KeepError.Failed) self.old.plan.faults
-            self.new.plan.faults) (Some (told_of self.old)) (Some (told_of self.new)) }
+        ensures due { Spends (IsErrOf result KeepError.Failed) self.old.plan.faults
+            self.new.plan.faults (told_of self.old) (told_of self.new) }
         ensures appends { self.new.plan.append_faults ≡ self.old.plan.append_faults }
         ensures listings { self.new.plan.made.list ≡ self.old.plan.made.list }
         ensures fails { (IsErrOf result KeepError.Failed)
@@ -134,12 +133,12 @@ impl Keeper for MemKeeper {
         to: &[u8],
         new_name: &[u8],
     ) -> Result<(), KeepError>
-        ensures files { Changes (Renames from.now name.now to.now new_name.now result)
-            (Some (told_of self.old)) (Some (told_of self.new)) }
+        ensures files { Renames from.now name.now to.now new_name.now result (told_of self.old)
+            (told_of self.new) }
         ensures cause { HasCause
             (IsErrOf result KeepError.Failed) self.old.plan.faults self.new.plan.faults }
-        ensures due { Changes (Spends (IsErrOf result KeepError.Failed) self.old.plan.faults
-            self.new.plan.faults) (Some (told_of self.old)) (Some (told_of self.new)) }
+        ensures due { Spends (IsErrOf result KeepError.Failed) self.old.plan.faults
+            self.new.plan.faults (told_of self.old) (told_of self.new) }
         ensures appends { self.new.plan.append_faults ≡ self.old.plan.append_faults }
         ensures listings { self.new.plan.made.list ≡ self.old.plan.made.list }
         ensures fails { (IsErrOf result KeepError.Failed)
@@ -152,11 +151,10 @@ impl Keeper for MemKeeper {
     }
 
     fn remove(&mut self, mailbox: &[u8], name: &[u8]) -> Result<(), Failed>
-        ensures files { Changes (Removes mailbox.now name.now result) (Some (told_of self.old))
-            (Some (told_of self.new)) }
+        ensures files { Removes mailbox.now name.now result (told_of self.old) (told_of self.new) }
         ensures cause { HasCause (IsErr result) self.old.plan.faults self.new.plan.faults }
-        ensures due { Changes (Spends (IsErr result) self.old.plan.faults self.new.plan.faults)
-            (Some (told_of self.old)) (Some (told_of self.new)) }
+        ensures due { Spends (IsErr result) self.old.plan.faults self.new.plan.faults
+            (told_of self.old) (told_of self.new) }
         ensures appends { self.new.plan.append_faults ≡ self.old.plan.append_faults }
         ensures listings { self.new.plan.made.list ≡ self.old.plan.made.list }
         ensures fails { (IsErr result) ↔ IsTrue (fails_next KeepCall.Remove self.old.plan) }
@@ -169,12 +167,11 @@ impl Keeper for MemKeeper {
 
     fn read_ledger(&mut self, alloc: Global, root: u32) -> Result<Option<Vec<u8>>, KeepError>
         requires { root < 4 }
-        ensures files { Changes (ReadsLedger root result) (Some (told_of self.old))
-            (Some (told_of self.new)) }
+        ensures files { ReadsLedger root result (told_of self.old) (told_of self.new) }
         ensures cause { HasCause
             (IsErrOf result KeepError.Failed) self.old.plan.faults self.new.plan.faults }
-        ensures due { Changes (Spends (IsErrOf result KeepError.Failed) self.old.plan.faults
-            self.new.plan.faults) (Some (told_of self.old)) (Some (told_of self.new)) }
+        ensures due { Spends (IsErrOf result KeepError.Failed) self.old.plan.faults
+            self.new.plan.faults (told_of self.old) (told_of self.new) }
         ensures appends { self.new.plan.append_faults ≡ self.old.plan.append_faults }
         ensures listings { self.new.plan.made.list ≡ self.old.plan.made.list }
         ensures fails { (IsErrOf result KeepError.Failed)
@@ -189,12 +186,11 @@ impl Keeper for MemKeeper {
     fn append_ledger(&mut self, root: u32, line: &[u8]) -> Result<(), Failed>
         requires root { root < 4 }
         requires room { length (ledger_bytes self.old.files root) + length line.now < 5120 }
-        ensures files { Changes (Appends root line.now result) (Some (told_of self.old))
-            (Some (told_of self.new)) }
+        ensures files { Appends root line.now result (told_of self.old) (told_of self.new) }
         ensures cause { HasCause
             (IsErr result) self.old.plan.append_faults self.new.plan.append_faults }
-        ensures due { Changes (Spends (IsErr result) self.old.plan.append_faults
-            self.new.plan.append_faults) (Some (told_of self.old)) (Some (told_of self.new)) }
+        ensures due { Spends (IsErr result) self.old.plan.append_faults self.new.plan.append_faults
+            (told_of self.old) (told_of self.new) }
         ensures others { self.new.plan.faults ≡ self.old.plan.faults }
         ensures listings { self.new.plan.made.list ≡ self.old.plan.made.list }
         ensures fails { (IsErr result) ↔ IsTrue (fails_next KeepCall.AppendLedger self.old.plan) }
@@ -213,11 +209,10 @@ impl Keeper for MemKeeper {
     fn install_ledger(&mut self, root: u32, text: &[u8]) -> Result<(), Failed>
         requires root { root < 4 }
         requires short { length text.now < 5120 }
-        ensures files { Changes (Installs root text.now result) (Some (told_of self.old))
-            (Some (told_of self.new)) }
+        ensures files { Installs root text.now result (told_of self.old) (told_of self.new) }
         ensures cause { HasCause (IsErr result) self.old.plan.faults self.new.plan.faults }
-        ensures due { Changes (Spends (IsErr result) self.old.plan.faults self.new.plan.faults)
-            (Some (told_of self.old)) (Some (told_of self.new)) }
+        ensures due { Spends (IsErr result) self.old.plan.faults self.new.plan.faults
+            (told_of self.old) (told_of self.new) }
         ensures appends { self.new.plan.append_faults ≡ self.old.plan.append_faults }
         ensures listings { self.new.plan.made.list ≡ self.old.plan.made.list }
         ensures fails { (IsErr result) ↔ IsTrue (fails_next KeepCall.InstallLedger self.old.plan) }

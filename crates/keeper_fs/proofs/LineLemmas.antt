@@ -9,7 +9,7 @@ use Rattle.keeper_fs.specs.Ledgers.{AreWholeLines, is_line_feed}
 pub no_line : (text : List ℕ) → IsLastByte (is_byte 10) text None → AreWholeLines text (take 0 text)
 no_line text nowhere = record {
   rest = text;
-  front = refl;
+  prefix = refl;
   ended = inl refl;
   most = list_any_none is_line_feed text
       (λ k d within.
@@ -21,7 +21,7 @@ pub up_to_last : (text : List ℕ) (at : ℕ) → IsLastByte (is_byte 10) text (
     AreWholeLines text (take (at + 1) text)
 up_to_last text at last = record {
   rest = drop (at + 1) text;
-  front = sym (take-append-drop (at + 1) text);
+  prefix = sym (take-append-drop (at + 1) text);
   ended = inr (
     take at text,
     rw (add-one, take-suc text at 0 last.0.high, eqb-true _ _ last.1) refl,

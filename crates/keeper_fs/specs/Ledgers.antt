@@ -10,6 +10,6 @@ is_line_feed byte = byte == 10
 -- the whole lines of a text: all up to its last line feed
 pub record AreWholeLines (text lines : List ℕ) : Type 0 where
   pub rest : List ℕ
-  pub front : text ≡ lines ++ rest
+  pub prefix : text ≡ lines ++ rest
   pub ended : (lines ≡ []) ⊎ ((before : List ℕ) × (lines ≡ before ++ 10 ∷ []))
   pub most : list_any is_line_feed rest ≡ false

@@ -81,7 +81,7 @@ fn make_folder<R: Files>(rt: &R, path: &str) -> io::Result<()> {
             create_folder(rt, path, true)?;
             sync_folder(rt, parent_of(path))
         }
-        Err(error) => Err(error),
+        failed => failed,
     }
 }
 

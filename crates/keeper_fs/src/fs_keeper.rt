@@ -37,7 +37,7 @@ impl<R: Files + AllocGlobal + Clone + Drop> FsKeeper<R> {
     pub(crate) fn new(rt: R, folder: String) -> FsKeeper<R>
         ensures faults { faults_of result ≡ 0 }
         ensures appends { append_faults_of result ≡ 0 }
-        ensures listings { lists_of result ≡ 0 }
+        ensures no_listings { lists_of result ≡ 0 }
         ensures folder { folder_of result ≡ string_bytes folder }
     {
         FsKeeper {
@@ -75,6 +75,18 @@ impl<R: Files + AllocGlobal + Clone + Drop> FsKeeper<R> {
         Failed
     }
 
+    /// Counts a fault of `append_ledger`.
+    fn fail_append(&mut self) -> Failed
+        ensures counted { append_faults_of self.new ≡ next_count (append_faults_of self.old) }
+        ensures later { append_faults_of self.old ≤ append_faults_of self.new }
+        ensures others { faults_of self.new ≡ faults_of self.old }
+        ensures listings { lists_of self.new ≡ lists_of self.old }
+        ensures folder { folder_of self.new ≡ folder_of self.old }
+    {
+        self.append_faults = self.append_faults.saturating_add(1);
+        Failed
+    }
+
     /// The same answer. If it is `Failed`, the fault is counted.
     fn counted<T>(&mut self, answer: Result<T, KeepError>) -> Result<T, KeepError>
         ensures same { result ≡ answer }
@@ -104,7 +116,7 @@ impl<R: Files + AllocGlobal + Clone + Drop> Keeper for FsKeeper<R> {
         ensures cause { HasCause (IsErrOf result KeepError.Failed) (faults_of self.old)
             (faults_of self.new) }
         ensures appends { append_faults_of self.new ≡ append_faults_of self.old }
-        ensures listings { lists_of self.new ≡ next_count (lists_of self.old) }
+        ensures one_listing { lists_of self.new ≡ next_count (lists_of self.old) }
         ensures folder { folder_of self.new ≡ folder_of self.old }
         // The call fails if the mailbox's name is not the name of one file or folder, so that it
         // leads to no other folder.
@@ -172,16 +184,12 @@ impl<R: Files + AllocGlobal + Clone + Drop> Keeper for FsKeeper<R> {
         ensures outside { (is_file_name mailbox.now && is_file_name name.now) ≡ false
             → IsErr result }
     {
-        match messages::remove(
-            &self.rt,
-            self.rt.alloc(),
-            self.folder.as_str(),
-            mailbox,
-            name,
-        ) {
-            Ok(()) => Ok(()),
-            Err(_) => Err(self.fail()),
+        let folder = self.folder.as_str();
+        let removed = messages::remove(&self.rt, self.rt.alloc(), folder, mailbox, name);
+        if removed.is_err() {
+            return Err(self.fail());
         }
+        Ok(())
     }
 
     fn read_ledger(&mut self, alloc: Global, root: u32) -> Result<Option<Vec<u8>>, KeepError>
@@ -209,13 +217,12 @@ impl<R: Files + AllocGlobal + Clone + Drop> Keeper for FsKeeper<R> {
         // on its file.
         ensures long { 5120 ≤ length line.now → IsErr result }
     {
-        match ledgers::append(&self.rt, self.rt.alloc(), self.folder.as_str(), root, line) {
-            Ok(()) => Ok(()),
-            Err(_) => {
-                self.append_faults = self.append_faults.saturating_add(1);
-                Err(Failed)
-            }
+        let folder = self.folder.as_str();
+        let appended = ledgers::append(&self.rt, self.rt.alloc(), folder, root, line);
+        if appended.is_err() {
+            return Err(self.fail_append());
         }
+        Ok(())
     }
 
     fn install_ledger(&mut self, root: u32, text: &[u8]) -> Result<(), Failed>
@@ -226,9 +233,11 @@ impl<R: Files + AllocGlobal + Clone + Drop> Keeper for FsKeeper<R> {
         ensures listings { lists_of self.new ≡ lists_of self.old }
         ensures folder { folder_of self.new ≡ folder_of self.old }
     {
-        match ledgers::install(&self.rt, self.rt.alloc(), self.folder.as_str(), root, text) {
-            Ok(()) => Ok(()),
-            Err(_) => Err(self.fail()),
+        let folder = self.folder.as_str();
+        let installed = ledgers::install(&self.rt, self.rt.alloc(), folder, root, text);
+        if installed.is_err() {
+            return Err(self.fail());
         }
+        Ok(())
     }
 }

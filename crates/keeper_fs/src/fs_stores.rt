@@ -107,7 +107,7 @@ impl<R: Files + AllocGlobal + Clock + Clone + Drop> Stores for FsStores<R> {
             × (append_faults_of keeper ≡ 0)) }
         ensures cause { HasCause (IsErrOf result KeepError.Failed) (store_faults_of self.old)
             (store_faults_of self.new) }
-        ensures listings { IfOk result (λ keeper. lists_of keeper ≡ 0) }
+        ensures no_listings { IfOk result (λ keeper. lists_of keeper ≡ 0) }
         ensures account { IfOk result
             (λ keeper. folder_of keeper ≡ path_in (store_folder_of self.old) account.now) }
         // An opening answers `Failed` exactly if the folder's path is empty or not UTF-8, or the

@@ -42,11 +42,13 @@ impl Places {
 
 /// Fails if a file has this path.
 fn require_none<R: Files>(rt: &R, path: &str) -> io::Result<()> {
-    match fs::symlink_metadata(rt, path) {
-        Ok(_) => Err(io::Error::from(ErrorKind::AlreadyExists)),
-        Err(error) if error.kind() == ErrorKind::NotFound => Ok(()),
-        Err(error) => Err(error),
+    let Err(error) = fs::symlink_metadata(rt, path) else {
+        return Err(io::Error::from(ErrorKind::AlreadyExists));
+    };
+    if error.kind() == ErrorKind::NotFound {
+        return Ok(());
     }
+    Err(error)
 }
 
 /// Where a message file arrives: the paths that must be free, and the path that the file gets.

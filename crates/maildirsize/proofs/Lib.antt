@@ -1,5 +1,5 @@
 pub mod DigitSteps
-pub mod FrontLemmas
+pub mod PrefixLemmas
 pub mod WordLemmas
 pub mod SplitLemmas
 pub mod SumLineLemmas

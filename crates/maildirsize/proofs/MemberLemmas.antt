@@ -13,20 +13,20 @@ use Rattle.std.proofs.lemmas.List.Elements.{filter_map-append}
 use Rattle.std.proofs.lemmas.List.Sums.{sum_by_push}
 use Rattle.quota_units.specs.Limiting.{LimitNumbers, IsLimit}
 use Rattle.maildirsize.specs.declared.definition.Member.{Member}
-use Rattle.maildirsize.specs.Fronts.{skip_while, begins_with}
+use Rattle.maildirsize.specs.Prefixes.{skip_while, begins_with}
 use Rattle.maildirsize.specs.Lines.{is_line_feed, is_in_line, first_line}
 use Rattle.maildirsize.specs.Definition.{is_comma, limit_of, member_of, member_in, is_member, limit_named, limits_named, limits_in, wrong_text_in, is_in_member, member_texts_at}
-use Rattle.maildirsize.proofs.FrontLemmas.{take_yes, take_no, skip_yes, skip_no, skip_none, skip_wider, begins_with-skip_while, front_none}
+use Rattle.maildirsize.proofs.PrefixLemmas.{take_yes, take_no, skip_yes, skip_no, skip_none, skip_wider, begins_with-skip_while, prefix_none}
 use Rattle.maildirsize.proofs.SplitLemmas.{first_part, parts_behind}
 use Rattle.maildirsize.proofs.WordLemmas.{length-take_while}
 
--- a front of p within a wider front of q
+-- a prefix of p within a wider prefix of q
 module _ (p q : ℕ → Bool) (wider : (x : ℕ) → p x ≡ true → q x ≡ true) where
-  pub front_within : (xs : List ℕ) → take_while p (take_while q xs) ≡ take_while p xs
-  front_within [] = refl
-  front_within (x ∷ xs) = ⊎_elim
+  pub prefix_within : (xs : List ℕ) → take_while p (take_while q xs) ≡ take_while p xs
+  prefix_within [] = refl
+  prefix_within (x ∷ xs) = ⊎_elim
       (λ (h : p x ≡ true). ap (take_while p) (take_yes q x xs (wider x h)) ∙ take_yes p x (take_while q xs) h
-      ∙ ap (λ ys. x ∷ ys) (front_within xs) ∙ sym (take_yes p x xs h))
+      ∙ ap (λ ys. x ∷ ys) (prefix_within xs) ∙ sym (take_yes p x xs h))
       (λ (h : p x ≡ false). ⊎_elim
       (λ (k : q x ≡ true). ap (take_while p) (take_yes q x xs k) ∙ take_no p x (take_while q xs) h ∙ sym (take_no p x xs h))
       (λ (k : q x ≡ false). ap (take_while p) (take_no q x xs k) ∙ sym (take_no p x xs h))
@@ -51,12 +51,12 @@ digits_in_members c h = grind (arith, nat_tests)
 letters_in_members : (c : ℕ) → is_ascii_alphabetic c ≡ true → is_in_member c ≡ true
 letters_in_members c h = grind (arith, nat_tests)
 
--- the member at the front, by its digits and what stands behind them
-member_front : (bs : List ℕ) → member_in (take_while is_in_member bs) ≡ member_of (take_while is_ascii_digit bs)
+-- the member at the start, by its digits and what stands behind them
+member_prefix : (bs : List ℕ) → member_in (take_while is_in_member bs) ≡ member_of (take_while is_ascii_digit bs)
     (take_while is_in_member (skip_while is_ascii_digit bs))
-member_front bs =
+member_prefix bs =
     ap (λ ds. member_of ds (skip_while is_ascii_digit (take_while is_in_member bs)))
-    (front_within is_ascii_digit is_in_member digits_in_members bs)
+    (prefix_within is_ascii_digit is_in_member digits_in_members bs)
     ∙ ap (member_of (take_while is_ascii_digit bs)) (skip_within is_ascii_digit is_in_member digits_in_members bs)
 
 member_letter : (ds : List ℕ) (x : ℕ) → (nat_lt 0 (length ds) && is_ascii_alphabetic x) ≡ false → member_of ds (x ∷ []) ≡ None
@@ -64,16 +64,16 @@ member_letter ds x h = cond-false (nat_lt 0 (length ds) && is_ascii_alphabetic x
     (Some (record { letter = x; limit = limit_of (digits_value 10 ds) })) None h
 
 pub no_letter : (bs : List ℕ) → skip_while is_ascii_digit bs ≡ [] → member_in (take_while is_in_member bs) ≡ None
-no_letter bs h = member_front bs ∙ ap (λ r. member_of (take_while is_ascii_digit bs) (take_while is_in_member r)) h
+no_letter bs h = member_prefix bs ∙ ap (λ r. member_of (take_while is_ascii_digit bs) (take_while is_in_member r)) h
 
 wrong_start : (ds : List ℕ) (x : ℕ) (ys : List ℕ) → (nat_lt 0 (length ds) && is_ascii_alphabetic x) ≡ false
     → member_of ds (x ∷ ys) ≡ None
 wrong_start ds x [] h = member_letter ds x h
 wrong_start ds x (y ∷ ys) h = refl
 
-wrong_front : (ds : List ℕ) (x : ℕ) (next : List ℕ) → (nat_lt 0 (length ds) && is_ascii_alphabetic x) ≡ false
+wrong_prefix : (ds : List ℕ) (x : ℕ) (next : List ℕ) → (nat_lt 0 (length ds) && is_ascii_alphabetic x) ≡ false
     → member_of ds (take_while is_in_member (x ∷ next)) ≡ None
-wrong_front ds x next h = ⊎_elim
+wrong_prefix ds x next h = ⊎_elim
     (λ (k : is_in_member x ≡ true). ap (member_of ds) (take_yes is_in_member x next k)
     ∙ wrong_start ds x (take_while is_in_member next) h)
     (λ (k : is_in_member x ≡ false). ap (member_of ds) (take_no is_in_member x next k))
@@ -84,9 +84,9 @@ two_letters : (ds : List ℕ) (x : ℕ) (next : List ℕ) → begins_with is_in_
 two_letters ds x [] h = absurd (false≢true h)
 two_letters ds x (y ∷ next) h = ap (λ ys. member_of ds (x ∷ ys)) (take_yes is_in_member y next h)
 
-long_front : (ds : List ℕ) (x : ℕ) (next : List ℕ) → begins_with is_in_member next ≡ true
+long_prefix : (ds : List ℕ) (x : ℕ) (next : List ℕ) → begins_with is_in_member next ≡ true
     → member_of ds (take_while is_in_member (x ∷ next)) ≡ None
-long_front ds x next h = ⊎_elim
+long_prefix ds x next h = ⊎_elim
     (λ (k : is_in_member x ≡ true). ap (member_of ds) (take_yes is_in_member x next k) ∙ two_letters ds x next h)
     (λ (k : is_in_member x ≡ false). ap (member_of ds) (take_no is_in_member x next k))
     (cases_Bool (is_in_member x))
@@ -94,21 +94,21 @@ long_front ds x next h = ⊎_elim
 -- a member whose digits have this letter and these bytes behind them
 module _ (bs : List ℕ) (x : ℕ) (next : List ℕ) (found : skip_while is_ascii_digit bs ≡ x ∷ next) where
   here : member_in (take_while is_in_member bs) ≡ member_of (take_while is_ascii_digit bs) (take_while is_in_member (x ∷ next))
-  here = member_front bs ∙ ap (λ r. member_of (take_while is_ascii_digit bs) (take_while is_in_member r)) found
+  here = member_prefix bs ∙ ap (λ r. member_of (take_while is_ascii_digit bs) (take_while is_in_member r)) found
 
   pub no_digits : length (take_while is_ascii_digit bs) ≡ 0 → member_in (take_while is_in_member bs) ≡ None
   no_digits h =
       let few : length (take_while is_ascii_digit bs) ≤ 0 = omega arith in
-      here ∙ wrong_front (take_while is_ascii_digit bs) x next
+      here ∙ wrong_prefix (take_while is_ascii_digit bs) x next
       (and_left (nat_lt 0 (length (take_while is_ascii_digit bs))) (is_ascii_alphabetic x)
       (le-ltb 0 (length (take_while is_ascii_digit bs)) few))
 
   pub wrong_letter : is_ascii_alphabetic x ≡ false → member_in (take_while is_in_member bs) ≡ None
-  wrong_letter h = here ∙ wrong_front (take_while is_ascii_digit bs) x next
+  wrong_letter h = here ∙ wrong_prefix (take_while is_ascii_digit bs) x next
       (and_right (nat_lt 0 (length (take_while is_ascii_digit bs))) (is_ascii_alphabetic x) h)
 
   pub more_letters : begins_with is_in_member next ≡ true → member_in (take_while is_in_member bs) ≡ None
-  more_letters h = here ∙ long_front (take_while is_ascii_digit bs) x next h
+  more_letters h = here ∙ long_prefix (take_while is_ascii_digit bs) x next h
 
   module _ (some : 0 < length (take_while is_ascii_digit bs)) (letter : is_ascii_alphabetic x ≡ true)
       (ends : begins_with is_in_member next ≡ false) where
@@ -117,7 +117,7 @@ module _ (bs : List ℕ) (x : ℕ) (next : List ℕ) (found : skip_while is_asci
     member_read =
         let ds = take_while is_ascii_digit bs in
         here ∙ ap (member_of ds) (take_yes is_in_member x next (letters_in_members x letter)
-        ∙ ap (λ ys. x ∷ ys) (front_none is_in_member next ends))
+        ∙ ap (λ ys. x ∷ ys) (prefix_none is_in_member next ends))
         ∙ cond-true (nat_lt 0 (length ds) && is_ascii_alphabetic x)
         (Some (record { letter = x; limit = limit_of (digits_value 10 ds) })) None
         (and_from (nat_lt 0 (length ds)) (is_ascii_alphabetic x) (lt-ltb 0 (length ds) some) letter)

@@ -11,14 +11,14 @@ use Rattle.maildirsize.specs.declared.ledger_text.LedgerFault.{LedgerFault}
 use Rattle.maildirsize.specs.declared.ledger_text.LedgerFault.TheVariants.{TooLong, BadDefinition, BadLine, Torn}
 use Rattle.maildirsize.specs.declared.ledger_text.LedgerText.{LedgerText}
 use Rattle.maildirsize.specs.declared.definition.Member.{Member}
-use Rattle.maildirsize.specs.Fronts.{skip_while, begins_with}
+use Rattle.maildirsize.specs.Prefixes.{skip_while, begins_with}
 use Rattle.maildirsize.specs.Lines.{is_line_feed, is_in_line, parts_of, all_but_last, last_of, lines_in, rest_in, first_line}
 use Rattle.maildirsize.specs.Definition.{is_member, member_in, members_in, limits_named, wrong_text_in, definition_in, wrong_member_in, definition_of}
 use Rattle.maildirsize.specs.SumLine.{pair_in, is_sum_line, pairs_in}
 use Rattle.maildirsize.specs.Sums.{Pair}
 use Rattle.maildirsize.specs.Reading.{Reads, summary, SumsUp, line_fault, rest_fault, fault_in, fault_of}
 use Rattle.quota_units.proofs.CutLemmas.{after-cons}
-use Rattle.maildirsize.proofs.FrontLemmas.{skip_yes, skip_no}
+use Rattle.maildirsize.proofs.PrefixLemmas.{skip_yes, skip_no}
 use Rattle.maildirsize.proofs.SumsLemmas.{parts_first, parts_ended, parts_torn, no_bad_line}
 
 -- a definition whose members are all right has no wrong one

@@ -1,11 +1,11 @@
--- The first line of a text, cut at a separator, from its front on.
+-- The first line of a text, cut at a separator, from its prefix on.
 use Rattle.std.proofs.Common.{◌≡◌, ℕ, ◌+◌, List, [], ◌∷◌, Bool, true, false, cond, not, ◌||◌, refl, ap, ◌∙◌, sym, ⊎_elim}
 use Rattle.std.specs.List.{take_while, slice_split, onto_first, list_any, after_first}
 use Rattle.std.proofs.lemmas.Bool.{cases_Bool, cond-true, cond-false, or_left, or_right, or_from, not_from_true, not_from_false}
-use Rattle.maildirsize.specs.Fronts.{skip_while}
+use Rattle.maildirsize.specs.Prefixes.{skip_while}
 use Rattle.maildirsize.specs.Lines.{is_line_feed, is_in_line, first_line}
 use Rattle.quota_units.proofs.CutLemmas.{after-cons}
-use Rattle.maildirsize.proofs.FrontLemmas.{take_yes, take_no, skip_yes, skip_no}
+use Rattle.maildirsize.proofs.PrefixLemmas.{take_yes, take_no, skip_yes, skip_no}
 
 pub line_more : (x : ℕ) (xs : List ℕ) → is_line_feed x ≡ false → first_line (x ∷ xs) ≡ x ∷ first_line xs
 line_more x xs h = take_yes is_in_line x xs (not_from_false (is_line_feed x) h)

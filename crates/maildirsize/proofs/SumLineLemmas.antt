@@ -5,11 +5,11 @@ use Rattle.std.specs.Option.{option_map}
 use Rattle.std.proofs.lemmas.Bool.{cases_Bool, cond-true, cond-false, lt-ltb, false≢true}
 use Rattle.std.proofs.lemmas.Bool.Decides.{nat_tests}
 use Rattle.std.proofs.lemmas.List.{append_assoc}
-use Rattle.maildirsize.specs.Fronts.{skip_while, begins_with}
+use Rattle.maildirsize.specs.Prefixes.{skip_while, begins_with}
 use Rattle.maildirsize.specs.Lines.{is_line_feed, first_line}
 use Rattle.maildirsize.specs.Sums.{Pair}
 use Rattle.maildirsize.specs.SumLine.{is_space, is_in_word, magnitude_in, integer_in, words_in, pair_of, pair_of_words, sum_line_at}
-use Rattle.maildirsize.proofs.FrontLemmas.{take_yes, skip_yes, skip_no, begins_with-skip_while}
+use Rattle.maildirsize.proofs.PrefixLemmas.{take_yes, skip_yes, skip_no, begins_with-skip_while}
 use Rattle.maildirsize.proofs.SplitLemmas.{first_part, parts_behind, line_more, line_over, split_yes, list_any-skip_while, after_first-skip_while}
 
 -- the bytes of an integer with a minus, and of one without
@@ -35,7 +35,7 @@ no_word x h s = grind (arith, nat_tests)
 abbrev not_empty : List (List ℕ) → List (List ℕ)
 not_empty parts = filter (λ word. nat_lt 0 (length word)) parts
 
--- spaces in front change no word
+-- spaces in prefix change no word
 words_space : (x : ℕ) (xs : List ℕ) → is_space x ≡ true → words_at (x ∷ xs) ≡ words_at xs
 words_space x xs h = ap words_in (line_more x xs (space_within x h)) ∙ ap not_empty (split_yes is_space x (first_line xs) h)
 
@@ -128,15 +128,15 @@ words_none : (bs : List ℕ) → begins_with is_space bs ≡ false → begins_wi
 words_none [] s h = refl
 words_none (x ∷ xs) s h = words_end x xs (no_word x h s)
 
-front_some : (p : ℕ → Bool) (xs : List ℕ) → begins_with p xs ≡ true → 0 < length (take_while p xs)
-front_some p [] h = absurd (false≢true h)
-front_some p (x ∷ xs) h = let e = ap length (take_yes p x xs h) in omega arith
+prefix_some : (p : ℕ → Bool) (xs : List ℕ) → begins_with p xs ≡ true → 0 < length (take_while p xs)
+prefix_some p [] h = absurd (false≢true h)
+prefix_some p (x ∷ xs) h = let e = ap length (take_yes p x xs h) in omega arith
 
 -- words_at for bytes that begin with no space: the first word, if there is one
 words_cases : (P : List (List ℕ) → Type 0) (bs : List ℕ) → begins_with is_space bs ≡ false → P []
     → P (take_while is_in_word bs ∷ words_at (skip_while is_in_word bs)) → P (words_at bs)
 words_cases P bs s none some = ⊎_elim
-    (λ (h : begins_with is_in_word bs ≡ true). let e = words_more bs (front_some is_in_word bs h) in rw e some)
+    (λ (h : begins_with is_in_word bs ≡ true). let e = words_more bs (prefix_some is_in_word bs h) in rw e some)
     (λ (h : begins_with is_in_word bs ≡ false). let e = words_none bs s h in rw e none)
     (cases_Bool (begins_with is_in_word bs))
 
@@ -185,7 +185,7 @@ line_not_done u v [] s e = refl
 line_not_done u v (x ∷ xs) s e =
     let w : is_in_word x ≡ true = grind (arith, nat_tests) in
     refused (list_any is_line_feed (x ∷ xs)) (after_first is_line_feed (x ∷ xs)) (pair_of_words (u ∷ v ∷ words_at (x ∷ xs)))
-    (ap (λ ws. pair_of_words (u ∷ v ∷ ws)) (words_more (x ∷ xs) (front_some is_in_word (x ∷ xs) w)))
+    (ap (λ ws. pair_of_words (u ∷ v ∷ ws)) (words_more (x ∷ xs) (prefix_some is_in_word (x ∷ xs) w)))
 
 -- the same, where the bytes were read one piece after the other: a and b stand behind spaces, r behind the first word, s behind the second, e behind the spaces then
 module _ (bs a r b : List ℕ) (y : ℤ) (ea : a ≡ skip_while is_space bs) (first : integer_in (take_while is_in_word a) ≡ Some y)

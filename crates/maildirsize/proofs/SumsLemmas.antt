@@ -135,7 +135,7 @@ pub record SummedTo (bytes rest : List ℕ) (lines : ℕ) (octets count : ℤ) :
   pub octets_are : octets ≡ total_of (map (λ (p : Pair). p.octets) (pairs_in done))
   pub count_is : count ≡ total_of (map (λ (p : Pair). p.count) (pairs_in done))
 
--- what a line at the front says
+-- what a line at the start says
 line_taken : (ended : Bool) (after : List ℕ) (o : Option Pair) (pair : Pair) (next : List ℕ)
     → ◌≡◌ {A = Option (Pair × List ℕ)} (cond ended (option_map (λ p. (p, after)) o) None) (Some (pair, next))
     → (ended ≡ true) × ((o ≡ Some pair) × (after ≡ next))

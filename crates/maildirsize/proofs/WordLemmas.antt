@@ -9,10 +9,10 @@ use Rattle.std.proofs.lemmas.Bool.Decides.{nat_tests}
 use Rattle.std.proofs.lemmas.Int.Digits.{digits_value-lt}
 use Rattle.std.proofs.lemmas.List.Folds.{list_all-append}
 use Rattle.std.proofs.lemmas.List.{append-nil}
-use Rattle.maildirsize.specs.Fronts.{skip_while, begins_with}
+use Rattle.maildirsize.specs.Prefixes.{skip_while, begins_with}
 use Rattle.maildirsize.specs.SumLine.{is_in_word, magnitude_in}
 use Rattle.quota_units.proofs.DigitLemmas.{all_digits}
-use Rattle.maildirsize.proofs.FrontLemmas.{front_wider, skip_wider, front_none, skip_none, list_all-take_while, front_mixed, begins_with-skip_while, take_while-append-skip_while}
+use Rattle.maildirsize.proofs.PrefixLemmas.{prefix_wider, skip_wider, prefix_none, skip_none, list_all-take_while, prefix_mixed, begins_with-skip_while, take_while-append-skip_while}
 
 -- 18 digits write a number below 10 ^ 18
 pub digits_bound : (ds : List ℕ) → list_all is_ascii_digit ds ≡ true → length ds ≤ 18 → digits_value 10 ds < 1000000000000000000
@@ -77,17 +77,17 @@ magnitude_cut_short bs h =
     let digits = take_while is_ascii_digit bs in
     let rest = skip_while is_ascii_digit bs in
     let more = take_while is_in_word rest in
-    ap magnitude_in (front_wider is_ascii_digit is_in_word digits_in_words bs) ∙ magnitude_mixed (digits ++ more)
+    ap magnitude_in (prefix_wider is_ascii_digit is_in_word digits_in_words bs) ∙ magnitude_mixed (digits ++ more)
     (list_all-append is_ascii_digit digits more
     ∙ and_right (list_all is_ascii_digit digits) (list_all is_ascii_digit more)
-    (front_mixed is_ascii_digit is_in_word rest (begins_with-skip_while is_ascii_digit bs) h))
+    (prefix_mixed is_ascii_digit is_in_word rest (begins_with-skip_while is_ascii_digit bs) h))
 
 word_of_digits : (bs : List ℕ) → begins_with is_in_word (skip_while is_ascii_digit bs) ≡ false
     → take_while is_in_word bs ≡ take_while is_ascii_digit bs
 word_of_digits bs ends =
     let digits = take_while is_ascii_digit bs in
-    front_wider is_ascii_digit is_in_word digits_in_words bs
-    ∙ ap (λ ys. digits ++ ys) (front_none is_in_word (skip_while is_ascii_digit bs) ends) ∙ append-nil digits
+    prefix_wider is_ascii_digit is_in_word digits_in_words bs
+    ∙ ap (λ ys. digits ++ ys) (prefix_none is_in_word (skip_while is_ascii_digit bs) ends) ∙ append-nil digits
 
 pub magnitude_refused : (bs : List ℕ) → magnitude_in (take_while is_ascii_digit bs) ≡ None
     → magnitude_in (take_while is_in_word bs) ≡ None
@@ -114,6 +114,6 @@ magnitude_taken bs some few ends =
       omega (arith, bound),
     )
 
--- the front and what stands behind it make up the list
+-- the prefix and what stands behind it make up the list
 pub length-take_while : (p : ℕ → Bool) (bs : List ℕ) → length (take_while p bs) + length (skip_while p bs) ≡ length bs
 length-take_while p bs = sym (length-append (take_while p bs) (skip_while p bs)) ∙ ap length (take_while-append-skip_while p bs)

@@ -12,7 +12,7 @@ use Rattle.std.proofs.lemmas.List.{append_assoc, append-nil}
 use Rattle.std.proofs.lemmas.List.Folds.{list_all-append}
 use Rattle.quota_units.specs.Limiting.{LimitNumbers, IsLimit, AreLimits}
 use Rattle.maildirsize.specs.declared.definition.Member.{Member}
-use Rattle.maildirsize.specs.Fronts.{skip_while}
+use Rattle.maildirsize.specs.Prefixes.{skip_while}
 use Rattle.maildirsize.specs.Lines.{is_line_feed, is_in_line, parts_of, all_but_last, last_of}
 use Rattle.maildirsize.specs.Definition.{is_comma, limit_of, member_in, member_of, members_in, limits_named, limits_in, definition_in}
 use Rattle.maildirsize.specs.Sums.{Pair}
@@ -20,7 +20,7 @@ use Rattle.maildirsize.specs.SumLine.{is_space, is_in_word, magnitude_in, intege
 use Rattle.maildirsize.specs.Written.{written_limits, written_definition, written_line, written_ledger, IsSmall}
 use Rattle.maildirsize.specs.Reading.{Reads}
 use Rattle.maildirsize.specs.Laws.{WrittenReadsBack}
-use Rattle.maildirsize.proofs.FrontLemmas.{take_yes, take_no, skip_yes, skip_no}
+use Rattle.maildirsize.proofs.PrefixLemmas.{take_yes, take_no, skip_yes, skip_no}
 use Rattle.maildirsize.proofs.SplitLemmas.{split_yes, split_no}
 use Rattle.quota_units.proofs.DigitLemmas.{digit_range, digits_all}
 use Rattle.maildirsize.proofs.WordLemmas.{magnitude_some}
@@ -39,13 +39,13 @@ all_wider p q wider [] h = refl
 all_wider p q wider (x ∷ xs) h = let t = and_parts (p x) (list_all p xs) h in all_cons q x xs (wider x t.0)
     (all_wider p q wider xs t.1)
 
--- a front that all passes, and what follows it
-front_all : (p : ℕ → Bool) (xs : List ℕ) (y : ℕ) (ys : List ℕ) → list_all p xs ≡ true → p y ≡ false
+-- a prefix that all passes, and what follows it
+prefix_all : (p : ℕ → Bool) (xs : List ℕ) (y : ℕ) (ys : List ℕ) → list_all p xs ≡ true → p y ≡ false
     → (take_while p (xs ++ y ∷ ys) ≡ xs) × (skip_while p (xs ++ y ∷ ys) ≡ y ∷ ys)
-front_all p [] y ys h k = (take_no p y ys k, skip_no p y ys k)
-front_all p (x ∷ xs) y ys h k =
+prefix_all p [] y ys h k = (take_no p y ys k, skip_no p y ys k)
+prefix_all p (x ∷ xs) y ys h k =
     let t = and_parts (p x) (list_all p xs) h in
-    let more = front_all p xs y ys t.1 k in
+    let more = prefix_all p xs y ys t.1 k in
     (take_yes p x (xs ++ y ∷ ys) t.0 ∙ ap (λ zs. x ∷ zs) more.0, skip_yes p x (xs ++ y ∷ ys) t.0 ∙ more.1)
 
 -- a part without the separator
@@ -194,7 +194,7 @@ module _ (n : ℕ) (limit : IsLimit n) where
   member_back : (letter : ℕ) → is_ascii_digit letter ≡ false → is_ascii_alphabetic letter ≡ true
       → member_in (decimal n ++ letter ∷ []) ≡ Some (member letter (Some n))
   member_back letter other alphabetic =
-      let f = front_all is_ascii_digit (decimal n) letter [] (decimal_digits n fits_word) other in
+      let f = prefix_all is_ascii_digit (decimal n) letter [] (decimal_digits n fits_word) other in
       let some = decimal_some n fits_word in
       ap (λ ds. member_of ds (skip_while is_ascii_digit (decimal n ++ letter ∷ []))) f.0 ∙ ap (member_of (decimal n)) f.1
       ∙ cond-true (nat_lt 0 (length (decimal n)) && is_ascii_alphabetic letter)

@@ -8,7 +8,7 @@ use Rattle.std.specs.Str.Parse.{digits_value}
 use Rattle.quota_units.specs.declared.limits.TheConstants.{LARGEST_LIMIT}
 use Rattle.quota_units.specs.Limiting.{LimitNumbers}
 use Rattle.maildirsize.specs.declared.definition.Member.{Member}
-use Rattle.maildirsize.specs.Fronts.{skip_while}
+use Rattle.maildirsize.specs.Prefixes.{skip_while}
 use Rattle.maildirsize.specs.Lines.{is_line_feed, first_line}
 
 -- a comma is byte 44

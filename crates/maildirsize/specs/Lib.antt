@@ -1,5 +1,5 @@
 pub mod Lines
-pub mod Fronts
+pub mod Prefixes
 pub mod Definition
 pub mod SumLine
 pub mod Sums

@@ -1,11 +1,11 @@
 ghost use Rattle.std.specs.Prelude.{◌≡◌, ◌==◌, if◌then◌else◌, None, Some, IfSome, IfOk, MatchOption, MatchResult};
 ghost use Rattle.std.specs.List.{take_while};
 ghost use Rattle.quota_units.specs.Limiting.{IsLimit};
-ghost use Rattle.maildirsize.specs.Fronts.{skip_while, begins_with};
+ghost use Rattle.maildirsize.specs.Prefixes.{skip_while, begins_with};
 ghost use Rattle.maildirsize.specs.Lines.{is_in_line, first_line};
 ghost use Rattle.maildirsize.specs.Definition.{limit_of, is_in_member, member_in, member_texts_at, limits_in, wrong_text_in, definition_in, wrong_member_in, definition_of};
 
-use crate::fronts::{after_byte, leading_digits};
+use crate::prefixes::{after_byte, leading_digits};
 use quota_units::{LARGEST_LIMIT, Limits};
 
 /// A member of a definition: its letter, and the limit that its number sets.

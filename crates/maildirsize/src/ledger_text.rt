@@ -9,7 +9,7 @@ ghost use Rattle.maildirsize.specs.Sums.{Pair};
 ghost use Rattle.maildirsize.specs.Reading.{Reads, SumsUp, summary, fault_of, line_fault, rest_fault};
 
 use crate::definition::{leading_definition, limits_from};
-use crate::fronts::after_byte;
+use crate::prefixes::after_byte;
 use crate::sum_line::leading_sum_line;
 use quota_units::Limits;
 use thiserror::Error;

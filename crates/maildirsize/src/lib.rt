@@ -5,9 +5,9 @@
 #![tactic(auto)]
 
 mod definition;
-mod fronts;
 mod laws;
 mod ledger_text;
+mod prefixes;
 mod printing;
 mod sum_line;
 mod text;

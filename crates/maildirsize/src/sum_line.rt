@@ -1,9 +1,9 @@
 ghost use Rattle.std.specs.Prelude.{◌≡◌, ◌<◌, None, Some, IfSome, MatchOption, unsigned_abs};
 ghost use Rattle.std.specs.List.{take_while};
-ghost use Rattle.maildirsize.specs.Fronts.{skip_while, begins_with};
+ghost use Rattle.maildirsize.specs.Prefixes.{skip_while, begins_with};
 ghost use Rattle.maildirsize.specs.SumLine.{is_space, is_in_word, magnitude_in, integer_in, sum_line_at};
 
-use crate::fronts::{CUT, after_byte, leading_digits};
+use crate::prefixes::{CUT, after_byte, leading_digits};
 
 /// The octets and the messages of the sum line that the bytes begin with, and the bytes after its
 /// line feed; `None` if the first line is not a sum line or has no line feed.

@@ -9,7 +9,7 @@ use Rattle.std.proofs.lemmas.Bool.{cond-true, and_from, and_parts, lt-ltb, ltb-t
 use Rattle.std.proofs.lemmas.Bool.Decides.{nat_tests}
 use Rattle.std.proofs.lemmas.List.{drop_at}
 use Rattle.message_names.specs.Parts.{is_comma}
-use Rattle.message_names.specs.Sizes.{cut, size_in_digits, size_at, size_named, ends_digits, SizePlace, NamesSize, NamesNoSize, IsSizeNamed}
+use Rattle.message_names.specs.Sizes.{cut_size, size_in_digits, size_at, size_named, ends_digits, SizePlace, NamesSize, NamesNoSize, IsSizeNamed}
 use Rattle.message_names.proofs.CutLemmas.{before_yes, before_no}
 
 digit_no_comma : (c : ℕ) → is_ascii_digit c ≡ true → is_comma c ≡ false
@@ -28,14 +28,14 @@ before_digits (d ∷ ds) after h e =
     before_no is_comma d (ds ++ after) (digit_no_comma d p.0) ∙ ap (λ ys. d ∷ ys) (before_digits ds after p.1 e)
 
 digits_read : (digits : List ℕ) → 0 < length digits → list_all is_ascii_digit digits ≡ true
-    → size_in_digits digits ≡ Some (cut (digits_value 10 digits))
+    → size_in_digits digits ≡ Some (cut_size (digits_value 10 digits))
 digits_read digits some all =
-    cond-true (nat_lt 0 (length digits) && list_all is_ascii_digit digits) (Some (cut (digits_value 10 digits))) None
+    cond-true (nat_lt 0 (length digits) && list_all is_ascii_digit digits) (Some (cut_size (digits_value 10 digits))) None
     (and_from (nat_lt 0 (length digits)) (list_all is_ascii_digit digits) (lt-ltb 0 (length digits) some) all)
 
 -- a place names the number of its digits, cut
 pub place_read : (digits after : List ℕ) → 0 < length digits → list_all is_ascii_digit digits ≡ true → ends_digits after ≡ true
-    → size_at (codes ",S=" ++ (digits ++ after)) ≡ Some (cut (digits_value 10 digits))
+    → size_at (codes ",S=" ++ (digits ++ after)) ≡ Some (cut_size (digits_value 10 digits))
 place_read digits after some all ended = ap size_in_digits (before_digits digits after all ended) ∙ digits_read digits some all
 
 -- these bytes begin with a place that names this size
@@ -43,7 +43,7 @@ record Here (bytes : List ℕ) (size : ℕ) : Type 0 where
   digits : List ℕ
   after : List ℕ
   place : SizePlace bytes [] digits after
-  value : size ≡ cut (digits_value 10 digits)
+  value : size ≡ cut_size (digits_value 10 digits)
 
 ended_either : (b : Bool) (n x : ℕ) (xs : List ℕ) → is_comma x ≡ b → ends_digits (drop n xs) ≡ true
     → ends_digits (drop (cond (not b) (1 + n) 0) (x ∷ xs)) ≡ true
@@ -54,8 +54,8 @@ ended_rest : (rest : List ℕ) → ends_digits (drop (position_or_len is_comma r
 ended_rest [] = refl
 ended_rest (x ∷ xs) = ended_either (is_comma x) (position_or_len is_comma xs) x xs refl (ended_rest xs)
 
-digits_found : (t : Bool) (digits : List ℕ) (n : ℕ) → cond t (Some (cut (digits_value 10 digits))) None ≡ Some n
-    → (t ≡ true) × (n ≡ cut (digits_value 10 digits))
+digits_found : (t : Bool) (digits : List ℕ) (n : ℕ) → cond t (Some (cut_size (digits_value 10 digits))) None ≡ Some n
+    → (t ≡ true) × (n ≡ cut_size (digits_value 10 digits))
 digits_found true digits n e = (refl, cc)
 digits_found false digits n e = absurd cc
 
@@ -93,9 +93,9 @@ here (a ∷ b ∷ c ∷ rest) n e =
       value = found.1;
     }
 
--- a place at the very front names the size of these bytes
-front : (bytes d e : List ℕ) → SizePlace bytes [] d e → size_at bytes ≡ Some (cut (digits_value 10 d))
-front bytes d e p = ap size_at p.whole ∙ place_read d e p.some p.digits_only p.ended
+-- a place at the very start names the size of these bytes
+prefix : (bytes d e : List ℕ) → SizePlace bytes [] d e → size_at bytes ≡ Some (cut_size (digits_value 10 d))
+prefix bytes d e p = ap size_at p.whole ∙ place_read d e p.some p.digits_only p.ended
 
 shifted : (x : ℕ) (bytes b d e : List ℕ) → SizePlace bytes b d e → SizePlace (x ∷ bytes) (x ∷ b) d e
 shifted x bytes b d e p = record { whole = ap (λ ys. x ∷ ys) p.whole; some = p.some; digits_only = p.digits_only; ended = p.ended }
@@ -110,9 +110,9 @@ no_place : (b d e : List ℕ) → SizePlace [] b d e → ⊥
 no_place [] d e p = let whole = p.whole in absurd cc
 no_place (x ∷ b) d e p = let whole = p.whole in absurd cc
 
--- no place at the front: a place has bytes before it, and stands behind the first byte
+-- no place at the start: a place has bytes before it, and stands behind the first byte
 none_here : (x : ℕ) (xs : List ℕ) → size_at (x ∷ xs) ≡ None → (d e : List ℕ) → SizePlace (x ∷ xs) [] d e → ⊥
-none_here x xs h d e p = let found = front (x ∷ xs) d e p in absurd cc
+none_here x xs h d e p = let found = prefix (x ∷ xs) d e p in absurd cc
 
 first_behind : (x : ℕ) (xs : List ℕ) (n : ℕ) → size_at (x ∷ xs) ≡ None → NamesSize xs n → NamesSize (x ∷ xs) n
 first_behind x xs n h s = record {
@@ -132,8 +132,8 @@ none_behind : (x : ℕ) (xs : List ℕ) → size_at (x ∷ xs) ≡ None → Name
 none_behind x xs h none [] d e p = none_here x xs h d e p
 none_behind x xs h none (y ∷ b) d e p = none b d e (behind_first x y xs b d e p)
 
-at_front : (x : ℕ) (xs : List ℕ) (n : ℕ) → Here (x ∷ xs) n → NamesSize (x ∷ xs) n
-at_front x xs n h = record {
+at_prefix : (x : ℕ) (xs : List ℕ) (n : ℕ) → Here (x ∷ xs) n → NamesSize (x ∷ xs) n
+at_prefix x xs n h = record {
   before = [];
   digits = h.digits;
   after = h.after;
@@ -143,7 +143,7 @@ at_front x xs n h = record {
 }
 
 one_more : (x : ℕ) (xs : List ℕ) (o r : Option ℕ) → size_at (x ∷ xs) ≡ o → IsSizeNamed xs r → IsSizeNamed (x ∷ xs) (option_or o r)
-one_more x xs (Some n) r e h = at_front x xs n (here (x ∷ xs) n e)
+one_more x xs (Some n) r e h = at_prefix x xs n (here (x ∷ xs) n e)
 one_more x xs None (Some n) e h = first_behind x xs n e h
 one_more x xs None None e h = none_behind x xs e h
 
@@ -166,7 +166,7 @@ same_size unique m n s t =
     let le = s.first t.before t.digits t.after t.place in
     let ge = t.first s.before s.digits s.after s.place in
     let digits = same_digits unique s.before s.digits s.after t.before t.digits t.after s.place t.place (omega arith) in
-    s.value ∙ ap (λ ds. cut (digits_value 10 ds)) digits ∙ sym t.value
+    s.value ∙ ap (λ ds. cut_size (digits_value 10 ds)) digits ∙ sym t.value
 
 same_named : (unique : List ℕ) (s t : Option ℕ) → IsSizeNamed unique s → IsSizeNamed unique t → s ≡ t
 same_named unique None None h k = refl

@@ -12,7 +12,7 @@ use Rattle.quota_units.specs.declared.flags.Flags.{Flags}
 use Rattle.quota_units.specs.Flagging.{is_flag_letter, flag_letters, has_flag, flags_among, letters_of}
 use Rattle.quota_units.proofs.DigitLemmas.{digits_all}
 use Rattle.message_names.specs.Parts.{is_colon, is_comma, unique_of, info_of}
-use Rattle.message_names.specs.Sizes.{cut, size_at, size_named, size_or}
+use Rattle.message_names.specs.Sizes.{cut_size, size_at, size_named, size_or}
 use Rattle.message_names.specs.FlagLetters.{after_two, flags_of, others_of}
 use Rattle.message_names.specs.Messages.{FileMessage, message_of}
 use Rattle.message_names.specs.Written.{is_base_byte, is_base, written_flags, written_name, renamed}
@@ -105,7 +105,7 @@ named_over [] ys h = refl
 named_over (x ∷ xs) ys h =
     let parts = head_none is_comma x xs h in named_no x (xs ++ ys) parts.0 ∙ named_over xs ys parts.1
 
-cut_twice : (n : ℕ) → cut (cut n) ≡ cut n
+cut_twice : (n : ℕ) → cut_size (cut_size n) ≡ cut_size n
 cut_twice n = omega arith
 
 same_message : (a b : List ℕ) (m n : ℕ) (f g : Flags) → a ≡ b → m ≡ n → f ≡ g
@@ -117,12 +117,12 @@ module _ (base : List ℕ) (size : ℕ) (flags : Flags) (right : is_base base �
   digits : list_all is_ascii_digit (decimal size) ≡ true
   digits = digits_all (decimal size) (decimal_is_IsNumeral size small).0.1
 
-  size_read : size_at (codes ",S=" ++ decimal size) ≡ Some (cut size)
+  size_read : size_at (codes ",S=" ++ decimal size) ≡ Some (cut_size size)
   size_read =
       let numeral = decimal_is_IsNumeral size small in
       ap (λ ds. size_at (codes ",S=" ++ ds)) (sym (append-nil (decimal size)))
       ∙ place_read (decimal size) [] numeral.0.0 digits refl
-      ∙ ap (λ n. Some (cut n)) numeral.1
+      ∙ ap (λ n. Some (cut_size n)) numeral.1
 
   abbrev unique : List ℕ
   unique = base ++ (codes ",S=" ++ decimal size)
@@ -137,7 +137,7 @@ module _ (base : List ℕ) (size : ℕ) (flags : Flags) (right : is_base base �
   no_comma : has_none is_comma base ≡ true
   no_comma = none_from is_comma is_base_byte base_no_comma base (base_bytes base right)
 
-  named : size_named unique ≡ Some (cut size)
+  named : size_named unique ≡ Some (cut_size size)
   named =
       named_over base (codes ",S=" ++ decimal size) no_comma
       ∙ ap (λ o. option_or o (size_named (codes "S=" ++ decimal size))) size_read
@@ -149,7 +149,7 @@ module _ (base : List ℕ) (size : ℕ) (flags : Flags) (right : is_base base �
   unique_back = ap unique_of apart ∙ (flags_read unique plain flags).0
 
   pub written_back : (length : ℕ)
-      → message_of (written_name base size flags) length ≡ record { base = base; octets = cut size; flags = flags }
+      → message_of (written_name base size flags) length ≡ record { base = base; octets = cut_size size; flags = flags }
   written_back length = same_message _ _ _ _ _ _
       (ap (before_first is_comma) unique_back ∙ before_at is_comma base 44 (codes "S=" ++ decimal size) no_comma refl)
       (ap (λ u. size_or (size_named u) length) unique_back ∙ ap (λ o. size_or o length) named ∙ cut_twice size)

@@ -2,7 +2,7 @@
 use Rattle.std.specs.Prelude.{◌≡◌, ◌<◌, ◌^◌, true, ℕ, List, Option}
 use Rattle.quota_units.specs.declared.flags.Flags.{Flags}
 use Rattle.message_names.specs.Parts.{unique_of, base_of}
-use Rattle.message_names.specs.Sizes.{cut, size_named, IsSizeNamed}
+use Rattle.message_names.specs.Sizes.{cut_size, size_named, IsSizeNamed}
 use Rattle.message_names.specs.FlagLetters.{flags_of, others_of}
 use Rattle.message_names.specs.Messages.{octets_of, message_of}
 use Rattle.message_names.specs.Written.{is_base, written_name, renamed}
@@ -21,7 +21,7 @@ WrittenReadsBack =
     → is_base base ≡ true → size < 2 ^ 64
     → message_of (written_name base size flags) length ≡ record {
       base = base;
-      octets = cut size;
+      octets = cut_size size;
       flags = flags;
     }
 

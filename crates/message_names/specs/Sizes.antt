@@ -7,14 +7,14 @@ use Rattle.std.specs.Str.Parse.{digits_value}
 use Rattle.message_names.specs.Parts.{is_comma}
 
 -- a size is cut at 1099511627775, which is 2 ^ 40 - 1
-abbrev pub cut : ℕ → ℕ
-cut octets = min octets 1099511627775
+abbrev pub cut_size : ℕ → ℕ
+cut_size octets = min octets 1099511627775
 
 -- the size that one or more digits stand for, cut
 abbrev pub size_in_digits : List ℕ → Option ℕ
 size_in_digits digits =
     if nat_lt 0 (length digits)
-    && list_all is_ascii_digit digits then Some (cut (digits_value 10 digits)) else None
+    && list_all is_ascii_digit digits then Some (cut_size (digits_value 10 digits)) else None
 
 -- the bytes after `,S=`, if the bytes begin with it
 abbrev pub after_mark : List ℕ → Option (List ℕ)
@@ -54,7 +54,7 @@ pub record NamesSize (unique : List ℕ) (size : ℕ) : Type 0 where
   pub after : List ℕ
   pub place : SizePlace unique before digits after
   pub first : (b d e : List ℕ) → SizePlace unique b d e → length before ≤ length b
-  pub value : size ≡ cut (digits_value 10 digits)
+  pub value : size ≡ cut_size (digits_value 10 digits)
 
 -- no place names a size
 abbrev pub NamesNoSize : List ℕ → Type 0
@@ -67,5 +67,5 @@ IsSizeNamed unique (Some size) = NamesSize unique size
 
 -- the named size, or else the file's length, each cut
 abbrev pub size_or : Option ℕ → ℕ → ℕ
-size_or None length = cut length
-size_or (Some size) length = cut size
+size_or None length = cut_size length
+size_or (Some size) length = cut_size size

@@ -2,7 +2,7 @@ ghost use Rattle.std.specs.Prelude.{◌≡◌, ◌++◌, ◌↔◌, ℕ, true, f
 ghost use Rattle.std.specs.List.{filter, list_any, list_all};
 ghost use Rattle.quota_units.specs.Flagging.{is_flag_letter, has_flag, flag_letters, letters_of};
 ghost use Rattle.message_names.specs.declared.writing.NameFault.TheVariants.{NoMemory};
-ghost use Rattle.message_names.specs.Sizes.{cut};
+ghost use Rattle.message_names.specs.Sizes.{cut_size};
 ghost use Rattle.message_names.specs.Messages.{message_of};
 ghost use Rattle.message_names.specs.Written.{is_base, is_base_byte, written_flags, written_name, renamed};
 ghost use Rattle.message_names.specs.Laws.{IsRenamed};
@@ -50,7 +50,7 @@ pub fn print_name(alloc: Global, base: &[u8], size: u64, flags: Flags) -> Result
     // Whatever the file's length, the name gives back this base, this size cut at 1099511627775,
     // and these flags.
     ensures reads_back { IfOk result (λ name. (length : ℕ) → message_of name.items length
-        ≡ record { base = base.now; octets = cut size; flags = flags }) }
+        ≡ record { base = base.now; octets = cut_size size; flags = flags }) }
 {
     if !is_base(base) {
         return Err(NameFault::BadBase);

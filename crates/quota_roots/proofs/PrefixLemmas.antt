@@ -4,14 +4,14 @@ use Rattle.std.specs.Cmp.Lexicographic.{pointwise}
 use Rattle.std.proofs.lemmas.Bool.Decides.{nat_tests}
 use Rattle.quota_roots.specs.Governing.{is_under}
 
-step : (b p : ℕ) (whole longer front rest : Bool) → (whole || longer) ≡ (front && rest)
-    → ((eqb b p && whole) || (eqb p b && longer)) ≡ ((eqb b p && front) && rest)
-step b p whole longer front rest h = grind (arith, nat_tests)
+step : (b p : ℕ) (whole longer prefix rest : Bool) → (whole || longer) ≡ (prefix && rest)
+    → ((eqb b p && whole) || (eqb p b && longer)) ≡ ((eqb b p && prefix) && rest)
+step b p whole longer prefix rest h = grind (arith, nat_tests)
 
 first : (b n : ℕ) → (eqb 46 b && true) ≡ (eqb (suc n) 0 || eqb b 46)
 first b n = grind (arith, nat_tests)
 
--- the prefix stands in front, and behind it stands nothing or a dot
+-- the prefix comes first, and behind it stands nothing or a dot
 pub goes_on : (prefix mailbox : List ℕ) → is_under prefix mailbox
     ≡ (pointwise eqb (take (length prefix) mailbox) prefix && (eqb (length (drop (length prefix) mailbox)) 0 || eqb (get_or (drop (length prefix) mailbox) 0 0) 46))
 goes_on [] [] = refl

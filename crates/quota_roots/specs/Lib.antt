@@ -3,3 +3,4 @@ pub mod MailboxNames
 pub mod RootLists
 pub mod RootSets
 pub mod Setups
+pub mod Copies

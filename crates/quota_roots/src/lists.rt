@@ -1,6 +1,7 @@
 ghost use Rattle.std.specs.Prelude.{◌≡◌, IfOk};
+ghost use Rattle.quota_roots.specs.Copies.{GivesCopy};
 
-use quota_units::{Limits, Name, NameError, NoMemory};
+use quota_units::{Limits, Name, NoMemory};
 use std::alloc::Global;
 use std::marker::Model;
 
@@ -40,7 +41,7 @@ impl LimitsList {
     ///
     /// `NoMemory` if memory runs out.
     pub fn copy(&self, alloc: Global) -> Result<LimitsList, NoMemory>
-        ensures { IfOk result (λ copy. copy ≡ self.now) }
+        ensures { GivesCopy self.now result }
     {
         Ok(LimitsList {
             limits: self.limits.to_vec(alloc)?,
@@ -83,7 +84,7 @@ impl NameList {
     ///
     /// `NoMemory` if memory runs out.
     pub fn copy(&self, alloc: Global) -> Result<NameList, NoMemory>
-        ensures { IfOk result (λ copy. copy ≡ self.now) }
+        ensures { GivesCopy self.now result }
     {
         Ok(NameList {
             names: copy_names(alloc, &self.names)?,
@@ -103,11 +104,7 @@ fn copy_names(alloc: Global, names: &[Name]) -> Result<Vec<Name>, NoMemory>
 
 /// An equal name.
 pub(crate) fn copy_name(alloc: Global, name: &Name) -> Result<Name, NoMemory>
-    ensures { IfOk result (λ copy. copy ≡ name.now) }
+    ensures { GivesCopy name.now result }
 {
-    match Name::of(alloc, name.as_slice()) {
-        Ok(copy) => Ok(copy),
-        Err(NameError::NoMemory) => Err(NoMemory),
-        Err(NameError::TooLong { .. }) => unreachable!(),
-    }
+    Name::of_short(alloc, name.as_slice())
 }

@@ -1,4 +1,5 @@
-ghost use Rattle.std.specs.Prelude.{◌≡◌, IfOk};
+ghost use Rattle.std.specs.Prelude.{◌≡◌};
+ghost use Rattle.quota_roots.specs.Copies.{GivesCopy};
 
 use super::lists::copy_name;
 use quota_units::{Name, NoMemory};
@@ -36,7 +37,7 @@ impl RootSpec {
 
     /// An equal root.
     pub(crate) fn copy(&self, alloc: Global) -> Result<RootSpec, NoMemory>
-        ensures { IfOk result (λ copy. copy ≡ self.now) }
+        ensures { GivesCopy self.now result }
     {
         let name = copy_name(alloc, &self.name)?;
         let prefix = match &self.prefix {

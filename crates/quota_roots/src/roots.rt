@@ -1,6 +1,7 @@
 ghost use Rattle.std.specs.Prelude.{◌≡◌, ◌≤◌, ◌<◌, ◌↔◌, ℕ, length, position, All, Contains, IfSome, IsTrue, IsFalse, IfOk, IsErrOf, vec_len, codes, bytes_eq};
 ghost use Rattle.std.specs.List.{list_all};
 ghost use Rattle.std.specs.Option.{option_map};
+ghost use Rattle.quota_roots.specs.Copies.{GivesCopy};
 ghost use Rattle.quota_roots.specs.Governing.{governs_at, governing, gaining, gainers, gains_by};
 ghost use Rattle.quota_roots.specs.RootSets.{has_root};
 ghost use Rattle.quota_units.specs.Bytes.{is_printable};
@@ -197,7 +198,7 @@ impl Roots {
     ///
     /// `NoMemory` if memory runs out.
     pub fn copy(&self, alloc: Global) -> Result<Roots, NoMemory>
-        ensures { IfOk result (λ copy. copy ≡ self.now) }
+        ensures { GivesCopy self.now result }
     {
         Ok(Roots {
             specs: copy_specs(alloc, &self.specs)?,

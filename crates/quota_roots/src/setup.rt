@@ -1,5 +1,6 @@
-ghost use Rattle.std.specs.Prelude.{◌≡◌, ◌↔◌, Some, bytes_eq, codes, slice_get, IsTrue, IfOk};
+ghost use Rattle.std.specs.Prelude.{◌≡◌, ◌↔◌, Some, bytes_eq, codes, slice_get, IsTrue};
 ghost use Rattle.std.specs.List.{list_all, list_any};
+ghost use Rattle.quota_roots.specs.Copies.{GivesCopy};
 ghost use Rattle.quota_roots.specs.Setups.{IsSound, AreMailboxes, are_different, is_mailbox};
 
 use crate::lists::{LimitsList, NameList};
@@ -34,7 +35,7 @@ impl Setup {
     ///
     /// `NoMemory` if memory runs out.
     pub fn copy(&self, alloc: Global) -> Result<Setup, NoMemory>
-        ensures { IfOk result (λ copy. copy ≡ self.now) }
+        ensures { GivesCopy self.now result }
     {
         Ok(Setup {
             roots: self.roots.copy(alloc)?,

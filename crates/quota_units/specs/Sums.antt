@@ -4,14 +4,14 @@ use Rattle.quota_units.specs.declared.totals.Totals.{Totals}
 
 -- The numbers kept of a store that tells nothing are cut here. No account that tells its files
 -- reaches this number.
-abbrev pub most : ℕ
-most = 2 ^ 62 - 1
+abbrev pub max_sum : ℕ
+max_sum = 2 ^ 62 - 1
 
-abbrev pub cut : ℕ → ℕ
-cut n = min n most
+abbrev pub cut_sum : ℕ → ℕ
+cut_sum n = min n max_sum
 
 abbrev pub cut_totals : ℕ → ℕ → Totals
-cut_totals octets count = record { octets = cut octets; count = cut count }
+cut_totals octets count = record { octets = cut_sum octets; count = cut_sum count }
 
 pub record AreSmall (totals : Totals) : Type 0 where
   pub octets : totals.octets < 2 ^ 62

@@ -20,5 +20,5 @@ pub use limits::{LARGEST_LIMIT, LimitError, Limits, MAX_LIMIT, limit_of_count, l
 pub use memory::NoMemory;
 pub use name::{Name, NameError};
 pub use resource::{Resource, resource_named};
-pub use totals::{MOST, Totals, cut_sum};
+pub use totals::{MAX_SUM, Totals, cut_sum};
 pub use units::units_up;

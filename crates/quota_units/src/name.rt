@@ -1,6 +1,7 @@
 ghost use Rattle.std.specs.Prelude.{◌≡◌, ◌<◌, ◌≤◌, ◌↔◌, length, vec_len, IfOk, IfErr, ◌⊎◌};
 ghost use Rattle.quota_units.specs.declared.name.NameError.TheVariants.{NoMemory};
 
+use crate::NoMemory;
 use std::alloc::{AllocError, Global};
 use std::marker::Model;
 use thiserror::Error;
@@ -57,6 +58,20 @@ impl Name {
                 length: bytes.len(),
             });
         }
+        Ok(Name {
+            bytes: bytes.to_vec(alloc)?,
+        })
+    }
+
+    /// The name of these bytes, of which there are at most 255.
+    ///
+    /// # Errors
+    ///
+    /// `NoMemory` if memory runs out.
+    pub fn of_short(alloc: Global, bytes: &[u8]) -> Result<Name, NoMemory>
+        requires { length bytes.now ≤ 255 }
+        ensures { IfOk result (λ name. name ≡ bytes.now) }
+    {
         Ok(Name {
             bytes: bytes.to_vec(alloc)?,
         })

@@ -2,7 +2,7 @@ ghost use Rattle.std.specs.Prelude.{◌≡◌, ◌+◌};
 ghost use Rattle.quota_units.specs.Sums.{AreSmall, cut_totals};
 
 /// Totals are cut at this number: 2^62 - 1. No account whose keeper tells its files reaches it.
-pub const MOST: u64 = 4611686018427387903;
+pub const MAX_SUM: u64 = 4611686018427387903;
 
 /// What messages add up to: their octets, and how many there are.
 #[derive(Clone, Copy, Debug, PartialEq, Eq)]
@@ -11,7 +11,7 @@ pub struct Totals {
     pub count: u64,
 }
 
-/// The sum of two totals, each number cut at `MOST`.
+/// The sum of two totals, each number cut at `MAX_SUM`.
 pub fn cut_sum(totals: Totals, more: Totals) -> Totals
     requires totals { AreSmall totals }
     requires more { AreSmall more }
@@ -19,7 +19,7 @@ pub fn cut_sum(totals: Totals, more: Totals) -> Totals
     ensures small { AreSmall result }
 {
     Totals {
-        octets: (totals.octets + more.octets).min(MOST),
-        count: (totals.count + more.count).min(MOST),
+        octets: (totals.octets + more.octets).min(MAX_SUM),
+        count: (totals.count + more.count).min(MAX_SUM),
     }
 }

@@ -2,10 +2,10 @@
 use Rattle.std.proofs.Common.{◌≡◌, ℕ, ◌+◌, ◌<◌, List, length, take, get_or, sum_by, arith, ap, ◌∙◌}
 use Rattle.std.proofs.lemmas.List.{take_more}
 use Rattle.std.proofs.lemmas.List.Sums.{sum_by_push}
-use Rattle.quota_units.specs.Sums.{cut}
+use Rattle.quota_units.specs.Sums.{cut_sum}
 
 -- a cut that is cut again with more
-pub cut_more : (a b : ℕ) → cut (cut a + b) ≡ cut (a + b)
+pub cut_more : (a b : ℕ) → cut_sum (cut_sum a + b) ≡ cut_sum (a + b)
 cut_more a b = omega arith
 
 module _ {X : Type 0} (weight : X → ℕ) where

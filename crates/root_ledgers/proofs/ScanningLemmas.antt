@@ -11,7 +11,7 @@ use Rattle.keeper.specs.Files.{Files, Row, listed}
 use Rattle.keeper.specs.Calls.{Told, Changes}
 use Rattle.keeper.specs.declared.rows.FileRow.{FileRow}
 use Rattle.keeper.proofs.Changing.{changes_then, changes_weaken}
-use Rattle.quota_units.specs.Sums.{AreSmall, cut, cut_totals}
+use Rattle.quota_units.specs.Sums.{AreSmall, cut_sum, cut_totals}
 use Rattle.quota_units.proofs.SumLemmas.{same_totals}
 use Rattle.root_ledgers.specs.Scans.{scan, sizes_of}
 use Rattle.root_ledgers.specs.Scanning.{AreScans, IsFresh, IsScan, ScansList, with_files, empty_scan, scan_at}
@@ -40,7 +40,7 @@ counted_octets : (roots : List RootSpec) (root : ℕ) (rows : List Row) (mailbox
     → sum_by (λ m. cond (governs_at roots root m) (size m) 0) (take (n + 1) mailboxes) ≡ sum_by (λ m. cond (governs_at roots root m) (size m) 0) (take n mailboxes) + cond (governs_at roots root (get_or mailboxes n [])) (size (get_or mailboxes n [])) 0
 counted_octets roots root rows mailboxes n inside size = sum_more (λ m. cond (governs_at roots root m) (size m) 0) mailboxes n [] inside
 
-cut_both : (a b : ℕ) → cut (cut a + cut b) ≡ cut (a + b)
+cut_both : (a b : ℕ) → cut_sum (cut_sum a + cut_sum b) ≡ cut_sum (a + b)
 cut_both a b = omega arith
 
 module _ (roots : List RootSpec) (root : ℕ) (rows : List Row) (mailboxes : List (List ℕ)) (n : ℕ) (inside : n < length mailboxes) where
@@ -53,15 +53,15 @@ module _ (roots : List RootSpec) (root : ℕ) (rows : List Row) (mailboxes : Lis
       ≡ cut_totals (sum_by (λ m. cond (governs_at roots root m) (sizes_of (listed m rows)) 0) (take n mailboxes) + cond b (sizes_of (listed here rows)) 0)
       (sum_by (λ m. cond (governs_at roots root m) (length (listed m rows)) 0) (take n mailboxes) + cond b (length (listed here rows)) 0)
   scan_by b is =
-      same_totals (ap cut (counted_octets roots root rows mailboxes n inside (λ m. sizes_of (listed m rows)) ∙ ap (λ c. sum_by (λ m. cond (governs_at roots root m) (sizes_of (listed m rows)) 0) (take n mailboxes) + cond c (sizes_of (listed here rows)) 0) is))
-      (ap cut (counted_octets roots root rows mailboxes n inside (λ m. length (listed m rows)) ∙ ap (λ c. sum_by (λ m. cond (governs_at roots root m) (length (listed m rows)) 0) (take n mailboxes) + cond c (length (listed here rows)) 0) is))
+      same_totals (ap cut_sum (counted_octets roots root rows mailboxes n inside (λ m. sizes_of (listed m rows)) ∙ ap (λ c. sum_by (λ m. cond (governs_at roots root m) (sizes_of (listed m rows)) 0) (take n mailboxes) + cond c (sizes_of (listed here rows)) 0) is))
+      (ap cut_sum (counted_octets roots root rows mailboxes n inside (λ m. length (listed m rows)) ∙ ap (λ c. sum_by (λ m. cond (governs_at roots root m) (length (listed m rows)) 0) (take n mailboxes) + cond c (length (listed here rows)) 0) is))
 
   counted_by : (b : Bool) → governs_at roots root here ≡ b → (totals : Totals) → totals ≡ scan roots root (take n mailboxes) rows
-      → (let x : Totals = cond b (cut_totals (totals.octets + cut (sizes_of (listed here rows))) (totals.count + cut (length (listed here rows)))) totals in x) ≡ scan roots root (take (n + 1) mailboxes) rows
+      → (let x : Totals = cond b (cut_totals (totals.octets + cut_sum (sizes_of (listed here rows))) (totals.count + cut_sum (length (listed here rows)))) totals in x) ≡ scan roots root (take (n + 1) mailboxes) rows
   counted_by true is totals fresh =
       rw fresh (same_totals (cut_both _ (sizes_of (listed here rows))) (cut_both _ (length (listed here rows)))) ∙ sym (scan_by true is)
   counted_by false is totals fresh =
-      fresh ∙ same_totals (ap cut (omega arith)) (ap cut (omega arith)) ∙ sym (scan_by false is)
+      fresh ∙ same_totals (ap cut_sum (omega arith)) (ap cut_sum (omega arith)) ∙ sym (scan_by false is)
 
   -- the mailbox was listed
   pub fresh_listed : (found found' : Option Totals) → found' ≡ with_files (governs_at roots root here) (cut_totals (sizes_of (listed here rows)) (length (listed here rows))) found

@@ -54,13 +54,13 @@ has_room long line = nat_lt (long + length line) 5120
 
 -- The ledger of a settled root that gets a line. If there is room, the line comes after the
 -- ledger's bytes, or else the ledger becomes the folded text. If the write failed, the root is in
--- doubt: a front of the line comes after the ledger's bytes if there was room, or else the ledger
+-- doubt: a prefix of the line comes after the ledger's bytes if there was room, or else the ledger
 -- stays.
 abbrev pub LineLedger : Bool → List ℕ → List ℕ → Option (List ℕ) → Standing → Option (List ℕ)
     → Type 0
 LineLedger true line text ledger Settled ledger' = ledger' ≡ Some (bytes_of ledger ++ line)
-LineLedger true line text ledger Doubt ledger' = (front rest : List ℕ) × (line ≡ front ++ rest)
-    × (bytes_of ledger' ≡ bytes_of ledger ++ front)
+LineLedger true line text ledger Doubt ledger' = (prefix rest : List ℕ) × (line ≡ prefix ++ rest)
+    × (bytes_of ledger' ≡ bytes_of ledger ++ prefix)
 LineLedger false line text ledger Settled ledger' = ledger' ≡ Some text
 LineLedger false line text ledger Doubt ledger' = ledger' ≡ ledger
 

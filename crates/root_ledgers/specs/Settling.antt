@@ -21,11 +21,15 @@ pub record Kept : Type 0 where
 abbrev pub kept_of : List LimitNumbers → List Book → Kept
 kept_of limits books = record { limits = limits; books = books }
 
+-- each total is below 2 ^ 62
+abbrev pub AreSmallBooks : List Book → Type 0
+AreSmallBooks books = All (λ (book : Book). AreSmall book.totals) books
+
 -- each root's limits have a book, there are at most four roots, and each total is below 2 ^ 62
 pub record AreKept (k : Kept) : Type 0 where
   pub each : length k.books ≡ length k.limits
   pub few : length k.limits ≤ 4
-  pub small : All (λ (book : Book). AreSmall book.totals) k.books
+  pub small : AreSmallBooks k.books
 
 -- what is kept of the roots stays, and the files stay
 abbrev pub Spared : Kept → Kept → Option Told → Option Told → Type 0

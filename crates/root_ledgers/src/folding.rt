@@ -2,7 +2,7 @@
 ghost use Rattle.std.specs.Prelude.{◌≡◌, ◌<◌, length, IfOk, IsErr};
 ghost use Rattle.quota_units.specs.Causes.{HasCause};
 ghost use Rattle.quota_units.specs.Sums.{AreSmall};
-ghost use Rattle.keeper.specs.Calls.{Changes, Due, Installs};
+ghost use Rattle.keeper.specs.Calls.{Changes, Installs, SpendsDue, both};
 ghost use Rattle.root_ledgers.specs.Ledgers.{folded};
 ghost use Rattle.root_ledgers.specs.Settling.{folded_book};
 
@@ -30,8 +30,8 @@ pub(crate) fn install_folded<K: Keeper>(
     ensures book { IfOk result (λ book. book ≡ folded_book limits.now totals) }
     ensures short { length (folded limits.now totals) < 5120 }
     ensures cause { HasCause (IsErr result) (K.faults keeper.old) (K.faults keeper.new) }
-    ensures due { Due (IsErr result) (K.faults keeper.old) (K.append_faults keeper.old)
-        (K.faults keeper.new) (K.append_faults keeper.new) (K.told keeper.old) (K.told keeper.new) }
+    ensures due { SpendsDue K.told (both K.faults K.append_faults) (IsErr result) keeper.old
+        keeper.new }
     ensures appends { K.append_faults keeper.new ≡ K.append_faults keeper.old }
 {
     let mut text = Text::new();

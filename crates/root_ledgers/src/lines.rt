@@ -1,14 +1,14 @@
 // The lines that a change of usage appends to ledgers.
-ghost use Rattle.std.specs.Prelude.{◌≡◌, ◌+◌, ◌≢◌, ◌<◌, ◌≤◌, ℕ, All, true, false, List, length, Some, IfSome};
+ghost use Rattle.std.specs.Prelude.{◌≡◌, ◌≢◌, ◌<◌, ◌≤◌, ℕ, true, false, List, length, Some, IfSome};
 ghost use Rattle.std.specs.Option.{option_map};
 ghost use Rattle.admission.specs.Fitting.{limits_at};
 ghost use Rattle.keeper.specs.Files.{ledger_at, ledger_bytes};
-ghost use Rattle.keeper.specs.Calls.{Changes, Due, OnFiles, OneLedger};
+ghost use Rattle.keeper.specs.Calls.{Changes, OnFiles, OneLedger, AddsNoDue, both};
 ghost use Rattle.root_ledgers.specs.declared.book.Standing.TheVariants.{Settled};
 ghost use Rattle.root_ledgers.specs.Ledgers.{folded};
 ghost use Rattle.root_ledgers.specs.Lines.{AreLong, HasCauses, FoldsShort, BookLined, BooksLined, LedgerLined, LedgersLined, fell_below, change_at, LineLedger, ChangedLedger, changed_book, fallen_by, fallen_at, has_room, line_by, lined_book};
 ghost use Rattle.quota_units.specs.Sums.{AreSmall};
-ghost use Rattle.root_ledgers.specs.Settling.{book_at};
+ghost use Rattle.root_ledgers.specs.Settling.{book_at, AreSmallBooks};
 
 use crate::book::{Book, Standing};
 use crate::change::{Change, change_at, print_change, totals_by};
@@ -36,8 +36,7 @@ fn append<K: Keeper>(keeper: &mut K, book: Book, root: u32, line: &[u8], totals:
         × LineLedger true line.now text (ledger_at files root) result.standing
         (ledger_at files' root))) (K.told keeper.old) (K.told keeper.new) }
     ensures faults { K.faults keeper.new ≡ K.faults keeper.old }
-    ensures due { Due ⊥ (K.faults keeper.old) (K.append_faults keeper.old) (K.faults keeper.new)
-        (K.append_faults keeper.new) (K.told keeper.old) (K.told keeper.new) }
+    ensures due { AddsNoDue K.told (both K.faults K.append_faults) keeper.old keeper.new }
     ensures appends { HasCauses (fallen_by true true result.standing) (K.append_faults keeper.old)
         (K.append_faults keeper.new) }
 {
@@ -70,8 +69,7 @@ fn fold<K: Keeper>(keeper: &mut K, limits: &Limits, book: Book, root: u32, total
         (ledger_at files' root))) (K.told keeper.old) (K.told keeper.new) }
     ensures faults { HasCauses (fallen_by false false result.standing) (K.faults keeper.old)
         (K.faults keeper.new) }
-    ensures due { Due ⊥ (K.faults keeper.old) (K.append_faults keeper.old) (K.faults keeper.new)
-        (K.append_faults keeper.new) (K.told keeper.old) (K.told keeper.new) }
+    ensures due { AddsNoDue K.told (both K.faults K.append_faults) keeper.old keeper.new }
     ensures appends { K.append_faults keeper.new ≡ K.append_faults keeper.old }
 {
     match install_folded(keeper, root, limits, totals) {
@@ -109,8 +107,7 @@ fn post<K: Keeper>(
         (ledger_at files' root))) (K.told keeper.old) (K.told keeper.new) }
     ensures faults { HasCauses (fallen_by false (has_room book.length (line_by change octets))
         result.standing) (K.faults keeper.old) (K.faults keeper.new) }
-    ensures due { Due ⊥ (K.faults keeper.old) (K.append_faults keeper.old) (K.faults keeper.new)
-        (K.append_faults keeper.new) (K.told keeper.old) (K.told keeper.new) }
+    ensures due { AddsNoDue K.told (both K.faults K.append_faults) keeper.old keeper.new }
     ensures appends { HasCauses (fallen_by true (has_room book.length (line_by change octets))
         result.standing) (K.append_faults keeper.old) (K.append_faults keeper.new) }
 {
@@ -139,12 +136,12 @@ fn post_at<K: Keeper>(
     requires four { length roots.now ≤ 4 }
     requires limits { length limits.now ≡ length roots.now }
     requires books { length books.old.items ≡ length roots.now }
-    requires small { All (λ book. AreSmall book.totals) books.old.items }
+    requires small { AreSmallBooks books.old.items }
     requires octets { octets < 1000000000000000000 }
     requires long { (book_at books.old.items root).standing ≡ Settled → IfSome (K.told keeper.old)
         (λ t. length (ledger_bytes t.files root) ≡ (book_at books.old.items root).length) }
     ensures count { length books.new.items ≡ length books.old.items }
-    ensures small { All (λ book. AreSmall book.totals) books.new.items }
+    ensures small { AreSmallBooks books.new.items }
     ensures book { BookLined (change_at roots.now (option_map (λ m. m.now) from.entry)
         (option_map (λ m. m.now) to.entry) root) octets (limits_at limits.now root)
         (book_at books.old.items root) (book_at books.new.items root) }
@@ -159,8 +156,7 @@ fn post_at<K: Keeper>(
         (option_map (λ m. m.now) from.entry) (option_map (λ m. m.now) to.entry) root) octets
         (book_at books.old.items root).standing (book_at books.old.items root).length
         (book_at books.new.items root).standing) (K.faults keeper.old) (K.faults keeper.new) }
-    ensures due { Due ⊥ (K.faults keeper.old) (K.append_faults keeper.old) (K.faults keeper.new)
-        (K.append_faults keeper.new) (K.told keeper.old) (K.told keeper.new) }
+    ensures due { AddsNoDue K.told (both K.faults K.append_faults) keeper.old keeper.new }
     ensures appends { HasCauses (fallen_at true (change_at roots.now
         (option_map (λ m. m.now) from.entry) (option_map (λ m. m.now) to.entry) root) octets
         (book_at books.old.items root).standing (book_at books.old.items root).length (book_at
@@ -192,21 +188,20 @@ pub(crate) fn write_lines<K: Keeper>(
     requires four { length roots.now ≤ 4 }
     requires limits { length limits.now ≡ length roots.now }
     requires books { length books.old.items ≡ length roots.now }
-    requires small { All (λ book. AreSmall book.totals) books.old.items }
+    requires small { AreSmallBooks books.old.items }
     requires octets { octets < 1000000000000000000 }
     requires long { AreLong books.old.items (K.told keeper.old) }
     ensures books { BooksLined (length roots.now)
         (change_at roots.now (option_map (λ m. m.now) from.entry)
         (option_map (λ m. m.now) to.entry)) octets limits.now books.old.items books.new.items }
-    ensures small { All (λ book. AreSmall book.totals) books.new.items }
+    ensures small { AreSmallBooks books.new.items }
     ensures files { Changes (OnFiles (LedgersLined (length roots.now) (change_at roots.now
         (option_map (λ m. m.now) from.entry) (option_map (λ m. m.now) to.entry)) octets limits.now
         books.old.items books.new.items)) (K.told keeper.old) (K.told keeper.new) }
     ensures faults { HasCauses (fell_below (length roots.now) false (change_at roots.now
         (option_map (λ m. m.now) from.entry) (option_map (λ m. m.now) to.entry)) octets
         books.old.items books.new.items) (K.faults keeper.old) (K.faults keeper.new) }
-    ensures due { Due ⊥ (K.faults keeper.old) (K.append_faults keeper.old) (K.faults keeper.new)
-        (K.append_faults keeper.new) (K.told keeper.old) (K.told keeper.new) }
+    ensures due { AddsNoDue K.told (both K.faults K.append_faults) keeper.old keeper.new }
     ensures appends { HasCauses (fell_below (length roots.now) true (change_at roots.now
         (option_map (λ m. m.now) from.entry) (option_map (λ m. m.now) to.entry)) octets
         books.old.items books.new.items) (K.append_faults keeper.old) (K.append_faults keeper.new) }

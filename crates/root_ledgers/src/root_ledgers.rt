@@ -4,13 +4,13 @@ ghost use Rattle.quota_units.specs.Causes.{HasCause};
 ghost use Rattle.quota_units.specs.Limiting.{AreLimits};
 ghost use Rattle.quota_units.specs.Sums.{AreSmall};
 ghost use Rattle.quota_roots.specs.RootSets.{has_root};
-ghost use Rattle.keeper.specs.Calls.{Changes, Due, Installs, OnFiles};
+ghost use Rattle.keeper.specs.Calls.{Changes, Installs, OnFiles, AddsNoDue, SpendsDue, both};
 ghost use Rattle.keeper.specs.Files.{ledger_bytes};
 ghost use Rattle.admission.specs.Fitting.{limits_at};
 ghost use Rattle.root_ledgers.specs.declared.book.Standing.TheVariants.{Settled, Doubt};
 ghost use Rattle.root_ledgers.specs.Ledgers.{folded};
 ghost use Rattle.root_ledgers.specs.Lines.{AreLong, BooksLined, HasCauses, LedgersLined, change_at, fell_below};
-ghost use Rattle.root_ledgers.specs.Settling.{AreKept, Marks, Settling, Spared, StaysInDoubt, book_at, with_folded};
+ghost use Rattle.root_ledgers.specs.Settling.{AreKept, Marks, Settling, Spared, StaysInDoubt, book_at, with_folded, AreSmallBooks};
 
 use crate::book::{Book, Standing};
 use crate::folding::install_folded;
@@ -111,9 +111,8 @@ impl RootLedgers {
             → Spared self.old self.new (K.told keeper.old) (K.told keeper.new) }
         ensures cause { HasCause (IsErrOf result KeepError.Failed) (K.faults keeper.old)
             (K.faults keeper.new) }
-        ensures due { Due (IsErrOf result KeepError.Failed) (K.faults keeper.old)
-            (K.append_faults keeper.old) (K.faults keeper.new) (K.append_faults keeper.new)
-            (K.told keeper.old) (K.told keeper.new) }
+        ensures due { SpendsDue K.told (both K.faults K.append_faults)
+            (IsErrOf result KeepError.Failed) keeper.old keeper.new }
         ensures appends { K.append_faults keeper.new ≡ K.append_faults keeper.old }
     {
         settle(
@@ -148,9 +147,8 @@ impl RootLedgers {
         ensures err { OnErr result (self.new ≡ self.old) }
         ensures short { length (folded limits totals) < 5120 }
         ensures cause { HasCause (IsErr result) (K.faults keeper.old) (K.faults keeper.new) }
-        ensures due { Due (IsErr result) (K.faults keeper.old) (K.append_faults keeper.old)
-            (K.faults keeper.new) (K.append_faults keeper.new) (K.told keeper.old)
-            (K.told keeper.new) }
+        ensures due { SpendsDue K.told (both K.faults K.append_faults) (IsErr result) keeper.old
+            keeper.new }
         ensures appends { K.append_faults keeper.new ≡ K.append_faults keeper.old }
     {
         // There are at most four roots.
@@ -192,8 +190,7 @@ impl RootLedgers {
             (change_at roots.now (option_map (λ m. m.now) from.entry)
             (option_map (λ m. m.now) to.entry)) octets self.old.books self.new.books)
             (K.append_faults keeper.old) (K.append_faults keeper.new) }
-        ensures due { Due ⊥ (K.faults keeper.old) (K.append_faults keeper.old) (K.faults keeper.new)
-            (K.append_faults keeper.new) (K.told keeper.old) (K.told keeper.new) }
+        ensures due { AddsNoDue K.told (both K.faults K.append_faults) keeper.old keeper.new }
     {
         write_lines(
             keeper,
@@ -216,7 +213,7 @@ fn books_in_doubt(alloc: Global, count: usize) -> Result<Vec<Book>, AllocError>
     ensures count { IfOk result (λ books. length books.items ≡ count) }
     ensures doubt { IfOk result (λ books. (root : ℕ)
         → (book_at books.items root).standing ≡ Doubt) }
-    ensures small { IfOk result (λ books. All (λ book. AreSmall book.totals) books.items) }
+    ensures small { IfOk result (λ books. AreSmallBooks books.items) }
 {
     let mut books = Vec::new(alloc);
     for _root in 0..count {

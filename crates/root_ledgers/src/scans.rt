@@ -4,7 +4,7 @@ ghost use Rattle.quota_units.specs.Causes.{HasCause};
 ghost use Rattle.quota_units.specs.Sums.{AreSmall, cut_totals};
 ghost use Rattle.quota_roots.specs.Governing.{governs_at};
 ghost use Rattle.quota_roots.specs.RootSets.{has_root};
-ghost use Rattle.keeper.specs.Calls.{Changes, Due};
+ghost use Rattle.keeper.specs.Calls.{Changes, SpendsDue, both};
 ghost use Rattle.root_ledgers.specs.Scans.{size_of_file, sizes_of};
 ghost use Rattle.root_ledgers.specs.Scanning.{AreScans, IsScan, ScansEach, SomeScanned, with_files, empty_scan, is_wanted, scan_at};
 ghost use Rattle.root_ledgers.specs.Settling.{StaysInDoubt, book_at};
@@ -150,9 +150,8 @@ pub(crate) fn scan_each<K: Keeper>(
     ensures wanted { IsErrOf result KeepError.Failed → StaysInDoubt (has_root set) books.now }
     ensures cause { HasCause (IsErrOf result KeepError.Failed) (K.faults keeper.old)
         (K.faults keeper.new) }
-    ensures due { Due (IsErrOf result KeepError.Failed) (K.faults keeper.old)
-        (K.append_faults keeper.old) (K.faults keeper.new) (K.append_faults keeper.new)
-        (K.told keeper.old) (K.told keeper.new) }
+    ensures due { SpendsDue K.told (both K.faults K.append_faults) (IsErrOf result KeepError.Failed)
+        keeper.old keeper.new }
     ensures appends { K.append_faults keeper.new ≡ K.append_faults keeper.old }
 {
     let mut scans = empty_scans(alloc, roots, books, set)?;

@@ -3,10 +3,10 @@ ghost use Rattle.std.specs.Prelude.{◌≡◌, ◌<◌, ◌≤◌, ℕ, true, le
 ghost use Rattle.quota_units.specs.Causes.{HasCause};
 ghost use Rattle.quota_units.specs.Sums.{AreSmall};
 ghost use Rattle.quota_roots.specs.RootSets.{has_root};
-ghost use Rattle.keeper.specs.Calls.{Changes, Due, OnFiles};
+ghost use Rattle.keeper.specs.Calls.{Changes, OnFiles, SpendsDue, both};
 ghost use Rattle.root_ledgers.specs.declared.book.Standing.TheVariants.{Settled, Doubt};
 ghost use Rattle.root_ledgers.specs.Scans.{scan};
-ghost use Rattle.root_ledgers.specs.Settling.{Settling, Marks, Spared, StaysInDoubt, book_at, kept_of};
+ghost use Rattle.root_ledgers.specs.Settling.{Settling, Marks, Spared, StaysInDoubt, book_at, kept_of, AreSmallBooks};
 
 use crate::book::Book;
 use crate::folding::install_folded;
@@ -34,7 +34,7 @@ fn settle_by<K: Keeper>(
     requires root { root < length roots.now }
     requires limits { length limits.now ≡ length roots.now }
     requires books { length books.old.items ≡ length roots.now }
-    requires kept { All (λ book. AreSmall book.totals) books.old.items }
+    requires small { AreSmallBooks books.old.items }
     requires doubt { (book_at books.old.items root).standing ≡ Doubt }
     requires totals { AreSmall totals }
     requires fresh { IfSome (K.told keeper.old)
@@ -43,12 +43,12 @@ fn settle_by<K: Keeper>(
         (kept_of limits.now books.old.items) (kept_of limits.now books.new.items)))
         (K.told keeper.old) (K.told keeper.new) }
     ensures marks { Marks (nat_eq root) books.old.items books.new.items }
-    ensures small { All (λ book. AreSmall book.totals) books.new.items }
+    ensures small { AreSmallBooks books.new.items }
     ensures settled { OnOk result ((book_at books.new.items root).standing ≡ Settled) }
     ensures stays { OnErr result (books.new.items ≡ books.old.items) }
     ensures cause { HasCause (IsErr result) (K.faults keeper.old) (K.faults keeper.new) }
-    ensures due { Due (IsErr result) (K.faults keeper.old) (K.append_faults keeper.old)
-        (K.faults keeper.new) (K.append_faults keeper.new) (K.told keeper.old) (K.told keeper.new) }
+    ensures due { SpendsDue K.told (both K.faults K.append_faults) (IsErr result) keeper.old
+        keeper.new }
     ensures appends { K.append_faults keeper.new ≡ K.append_faults keeper.old }
 {
     // The account has at most four roots.
@@ -77,12 +77,12 @@ pub(crate) fn settle<K: Keeper>(
 ) -> Result<(), KeepError>
     requires limits { length limits.now ≡ length roots.now }
     requires books { length books.old.items ≡ length roots.now }
-    requires small { All (λ book. AreSmall book.totals) books.old.items }
+    requires small { AreSmallBooks books.old.items }
     ensures files { Changes (OnFiles (Settling (has_root set) roots.now mailboxes.now
         (kept_of limits.now books.old.items) (kept_of limits.now books.new.items)))
         (K.told keeper.old) (K.told keeper.new) }
     ensures marks { Marks (has_root set) books.old.items books.new.items }
-    ensures small { All (λ book. AreSmall book.totals) books.new.items }
+    ensures small { AreSmallBooks books.new.items }
     ensures settled { OnOk result ((root : ℕ) → root < length roots.now → has_root set root ≡ true
         → (book_at books.new.items root).standing ≡ Settled) }
     ensures failed { IsErrOf result KeepError.Failed → StaysInDoubt (has_root set) books.new.items }
@@ -90,9 +90,8 @@ pub(crate) fn settle<K: Keeper>(
         (kept_of limits.now books.new.items) (K.told keeper.old) (K.told keeper.new) }
     ensures cause { HasCause (IsErrOf result KeepError.Failed) (K.faults keeper.old)
         (K.faults keeper.new) }
-    ensures due { Due (IsErrOf result KeepError.Failed) (K.faults keeper.old)
-        (K.append_faults keeper.old) (K.faults keeper.new) (K.append_faults keeper.new)
-        (K.told keeper.old) (K.told keeper.new) }
+    ensures due { SpendsDue K.told (both K.faults K.append_faults) (IsErrOf result KeepError.Failed)
+        keeper.old keeper.new }
     ensures appends { K.append_faults keeper.new ≡ K.append_faults keeper.old }
 {
     let scans = scan_each(alloc, keeper, roots, mailboxes, books, set)?;

@@ -191,7 +191,7 @@ fn a_sink_in_memory_fails_when_told_and_when_full(rt: HostRuntime) -> Result<(),
 }
 
 #[test]
-fn all_or_a_front_is_sent(rt: HostRuntime) -> Result<(), Fail> {
+fn all_or_a_prefix_is_sent(rt: HostRuntime) -> Result<(), Fail> {
     let mut sink = MemSink::new(rt.alloc(), 2, 5, Vec::new(rt.alloc()))?;
     // The bytes that are sent; how the call ends, and all that is written after it.
     let cases = [

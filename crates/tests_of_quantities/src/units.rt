@@ -36,6 +36,10 @@ fn a_name_has_at_most_255_bytes(rt: HostRuntime) -> Result<(), Fail> {
     let bytes = [b'x'; 256];
     assert_eq!(rt; Name::of(rt.alloc(), b"")?.as_slice(), b"".as_slice());
     assert_eq!(rt;
+        Name::of_short(rt.alloc(), b"Lists")?.as_slice(),
+        b"Lists".as_slice()
+    );
+    assert_eq!(rt;
         Name::of(rt.alloc(), &bytes[..255])?.as_slice(),
         &bytes[..255]
     );

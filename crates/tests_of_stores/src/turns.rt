@@ -244,7 +244,7 @@ fn work_in_four<R: Threads + Wait + Sync>(
     third: Pass,
     fourth: Pass,
 ) -> (Pass, bool)
-    requires front { IsOf lock.now first × IsOf lock.now second × ((view second).number ≢ 0) }
+    requires prefix { IsOf lock.now first × IsOf lock.now second × ((view second).number ≢ 0) }
     requires third { IsOf lock.now third × ((view third).number ≢ 0) }
     requires fourth { IsOf lock.now fourth × ((view fourth).number ≢ 0) }
     ensures lock { IsOf lock.now result.0 }

@@ -3,7 +3,7 @@ use Rattle.std.proofs.Common.{◌≡◌, ℕ, suc, zero, ◌+◌, ◌<◌, ◌�
 use Rattle.std.proofs.lemmas.List.{append_cancel_left}
 use Rattle.wire_io.specs.Protocol.{Protocol, Spells, IsFirst, IsRest, Spelling, Spellings, spelled_bytes, IsCut, IsFilled, HasOneCut}
 use Rattle.wire_io.specs.Transcript.{Found, or_later, first_request}
-use Rattle.wire_io.proofs.Fronts.{fronts, front_of_push}
+use Rattle.wire_io.proofs.Prefixes.{prefixes, prefix_of_push}
 
 module _ {State Request Call Answer : Type 0} (p : Protocol State Request Call Answer) where
   pub no_longer : (state : State) (bytes more : List ℕ) (q r : Request) → Spells p state bytes q → Spells p state (bytes ++ more) r → more ≡ []
@@ -19,9 +19,9 @@ module _ {State Request Call Answer : Type 0} (p : Protocol State Request Call A
       let b : p.whole state bytes ≡ Some r = other.whole in
       cc
 
-  -- two spellings at the front of one text are one
-  pub same_front : (state : State) (a b u v : List ℕ) (q r : Request) → Spells p state a q → Spells p state b r → a ++ u ≡ b ++ v → (b ≡ a) × (r ≡ q) × (v ≡ u)
-  same_front state a b u v q r one other e = elim (fronts a b u v e) [ inl h ↦ longer h.0 h.1 | inr h ↦ shorter h.0 h.1 h.2 ]
+  -- two spellings at the start of one text are one
+  pub same_prefix : (state : State) (a b u v : List ℕ) (q r : Request) → Spells p state a q → Spells p state b r → a ++ u ≡ b ++ v → (b ≡ a) × (r ≡ q) × (v ≡ u)
+  same_prefix state a b u v q r one other e = elim (prefixes a b u v e) [ inl h ↦ longer h.0 h.1 | inr h ↦ shorter h.0 h.1 h.2 ]
     where
       equal : b ≡ a → (b ≡ a) × (r ≡ q) × (v ≡ u)
       equal i =
@@ -38,37 +38,37 @@ module _ {State Request Call Answer : Type 0} (p : Protocol State Request Call A
           let none = no_longer state b (x ∷ m) r q other (subst (λ l. Spells p state l q) i one) in
           absurd cc
 
-  -- a rest has no spelling at its front
-  pub no_front : (state : State) (rest own behind : List ℕ) (q : Request) → IsRest p state rest → Spells p state own q → rest ≡ own ++ behind → ⊥
-  no_front state rest own behind q less spelled e =
-      let more = less.front.0 in
-      let whole : Spells p state (own ++ (behind ++ more)) less.front.1 = subst (λ l. Spells p state l less.front.1) (ap (λ l. l ++ more) e ∙ append_assoc own behind more) less.front.2 in
-      let none = no_longer state own (behind ++ more) q less.front.1 spelled whole in
-      let gone = front_nil behind more none in
+  -- a rest has no spelling at its start
+  pub no_prefix : (state : State) (rest own unread : List ℕ) (q : Request) → IsRest p state rest → Spells p state own q → rest ≡ own ++ unread → ⊥
+  no_prefix state rest own unread q less spelled e =
+      let more = less.prefix.0 in
+      let whole : Spells p state (own ++ (unread ++ more)) less.prefix.1 = subst (λ l. Spells p state l less.prefix.1) (ap (λ l. l ++ more) e ∙ append_assoc own unread more) less.prefix.2 in
+      let none = no_longer state own (unread ++ more) q less.prefix.1 spelled whole in
+      let gone = prefix_nil unread more none in
       less.unspelled q (subst (λ l. Spells p state l q) (sym (e ∙ ap (λ l. own ++ l) gone ∙ append-nil own)) spelled)
     where
-      front_nil : (a b : List ℕ) → a ++ b ≡ [] → a ≡ []
-      front_nil [] b i = refl
-      front_nil (x ∷ a) b i = absurd cc
+      prefix_nil : (a b : List ℕ) → a ++ b ≡ [] → a ≡ []
+      prefix_nil [] b i = refl
+      prefix_nil (x ∷ a) b i = absurd cc
 
-  -- no front of the text is a whole request
+  -- no prefix of the text is a whole request
   abbrev pub NoneWhole : State → List ℕ → Type 0
-  NoneWhole state text = (front more : List ℕ) → text ≡ front ++ more → p.whole state front ≡ None
+  NoneWhole state text = (prefix more : List ℕ) → text ≡ prefix ++ more → p.whole state prefix ≡ None
 
   -- what the search for the first request of a text finds
   abbrev pub IsFind : State → List ℕ → Option (Found Request) → Type 0
   IsFind state text None = NoneWhole state text
-  IsFind state text (Some found) = Spells p state found.own found.request × (text ≡ found.own ++ found.behind)
+  IsFind state text (Some found) = Spells p state found.own found.request × (text ≡ found.own ++ found.unread)
 
   first_push : (state : State) (come : List ℕ) (b : ℕ) → IsFirst p state come → p.whole state come ≡ None → IsFirst p state (come ++ b ∷ [])
-  first_push state come b first none front x more e = elim (front_of_push come b front x more e) [
+  first_push state come b first none prefix x more e = elim (prefix_of_push come b prefix x more e) [
     | inl same ↦ subst (λ l. p.whole state l ≡ None) same none
-    | inr h ↦ first front h.0 h.1 h.2
+    | inr h ↦ first prefix h.0 h.1 h.2
   ]
 
   at_end : (state : State) (come : List ℕ) → IsFirst p state come → p.whole state come ≡ None → NoneWhole state come
-  at_end state come first none front [] e = subst (λ l. p.whole state l ≡ None) (e ∙ append-nil front) none
-  at_end state come first none front (x ∷ more) e = first front x more e
+  at_end state come first none prefix [] e = subst (λ l. p.whole state l ≡ None) (e ∙ append-nil prefix) none
+  at_end state come first none prefix (x ∷ more) e = first prefix x more e
 
   pub first_is : (state : State) (come rest : List ℕ) → IsFirst p state come → IsFind state (come ++ rest) (first_request p state come rest)
   first_is state come [] first =
@@ -83,16 +83,16 @@ module _ {State Request Call Answer : Type 0} (p : Protocol State Request Call A
       ] refl
 
   nothing_first : (state : State) → IsFirst p state []
-  nothing_first state front b more e = absurd (nil_not front b more e)
+  nothing_first state prefix b more e = absurd (nil_not prefix b more e)
     where
-      nil_not : (front : List ℕ) (b : ℕ) (more : List ℕ) → [] ≡ front ++ b ∷ more → ⊥
+      nil_not : (prefix : List ℕ) (b : ℕ) (more : List ℕ) → [] ≡ prefix ++ b ∷ more → ⊥
       nil_not [] b more i = cc
-      nil_not (x ∷ front) b more i = cc
+      nil_not (x ∷ prefix) b more i = cc
 
   pub find_is : (state : State) (text : List ℕ) → IsFind state text (first_request p state [] text)
   find_is state text = first_is state [] text (nothing_first state)
 
-  -- a text none of whose fronts is whole is less than a request
+  -- a text none of whose prefixes is whole is less than a request
   pub rest_of : IsFilled p → (state : State) (text : List ℕ) → NoneWhole state text → IsRest p state text
   rest_of filled state text none =
       let more = (filled.fills state text).0 in
@@ -100,13 +100,13 @@ module _ {State Request Call Answer : Type 0} (p : Protocol State Request Call A
       let some = (filled.fills state text).2 in
       record {
         unspelled = λ r spelled. let here : p.whole state text ≡ Some r = spelled.whole in let gone : p.whole state text ≡ None = none text [] (sym (append-nil text)) in absurd cc;
-        front = found more (first_request p state [] (text ++ more)) (find_is state (text ++ more)) q some;
+        prefix = found more (first_request p state [] (text ++ more)) (find_is state (text ++ more)) q some;
       }
     where
       found : (more : List ℕ) (o : Option (Found Request)) → IsFind state (text ++ more) o → (q : Request) → p.whole state (text ++ more) ≡ Some q
           → (m : List ℕ) × (r : Request) × Spells p state (text ++ m) r
       found more None is q some = let gone : p.whole state (text ++ more) ≡ None = is (text ++ more) [] (sym (append-nil (text ++ more))) in absurd cc
-      found more (Some f) is q some = elim (fronts text f.own more f.behind is.1) [
+      found more (Some f) is q some = elim (prefixes text f.own more f.unread is.1) [
         | inl h ↦ (h.0, f.request, subst (λ l. Spells p state l f.request) h.1 is.0)
         | inr h ↦ let gone : p.whole state f.own ≡ None = none f.own (h.0 ∷ h.1) h.2 in let here : p.whole state f.own ≡ Some f.request = is.0.whole in absurd cc
       ]
@@ -124,9 +124,9 @@ module _ {State Request Call Answer : Type 0} (p : Protocol State Request Call A
   abbrev HasCut : State → List ℕ → Type 0
   HasCut state text = (xs : List (Spelling Request)) × (rest : List ℕ) × IsCut p state text xs rest
 
-  shorter : (own behind : List ℕ) (b : ℕ) (bs text : List ℕ) → text ≡ own ++ behind → own ≡ b ∷ bs → length behind < length text
-  shorter own behind b bs text e i =
-      let sized : length text ≡ length own + length behind = ap length e ∙ length-append own behind in
+  shorter : (own unread : List ℕ) (b : ℕ) (bs text : List ℕ) → text ≡ own ++ unread → own ≡ b ∷ bs → length unread < length text
+  shorter own unread b bs text e i =
+      let sized : length text ≡ length own + length unread = ap length e ∙ length-append own unread in
       let one : length own ≡ suc (length bs) = ap length i in
       omega (arith, sized, one)
 
@@ -135,7 +135,7 @@ module _ {State Request Call Answer : Type 0} (p : Protocol State Request Call A
   cut_found filled state text deeper None is = ([], text, record { last = state; spelled = refl; text_is = refl; less = rest_of filled state text is })
   cut_found filled state text deeper (Some f) is =
       let b = some_byte filled state f.own f.request is.0 in
-      let more = deeper (p.next state f.request) f.behind (shorter f.own f.behind b.0 b.1 text is.1 b.2) in (
+      let more = deeper (p.next state f.request) f.unread (shorter f.own f.unread b.0 b.1 text is.1 b.2) in (
         (f.own, f.request) ∷ more.0,
         more.1,
         record {
@@ -154,14 +154,14 @@ module _ {State Request Call Answer : Type 0} (p : Protocol State Request Call A
   one_cut_from state text [] [] rest other a b = (refl, sym b.text_is ∙ a.text_is)
   one_cut_from state text ((own, q) ∷ xs) [] rest other a b =
       let less : IsRest p state other = subst (λ s. IsRest p s other) b.spelled b.less in
-      absurd (no_front state other own (spelled_bytes xs ++ rest) q less a.spelled.0 (sym b.text_is ∙ a.text_is ∙ append_assoc own (spelled_bytes xs) rest))
+      absurd (no_prefix state other own (spelled_bytes xs ++ rest) q less a.spelled.0 (sym b.text_is ∙ a.text_is ∙ append_assoc own (spelled_bytes xs) rest))
   one_cut_from state text [] ((own, q) ∷ ys) rest other a b =
       let less : IsRest p state rest = subst (λ s. IsRest p s rest) a.spelled a.less in
-      absurd (no_front state rest own (spelled_bytes ys ++ other) q less b.spelled.0 (sym a.text_is ∙ b.text_is ∙ append_assoc own (spelled_bytes ys) other))
+      absurd (no_prefix state rest own (spelled_bytes ys ++ other) q less b.spelled.0 (sym a.text_is ∙ b.text_is ∙ append_assoc own (spelled_bytes ys) other))
   one_cut_from state text ((own, q) ∷ xs) ((also, r) ∷ ys) rest other a b =
       let split : own ++ (spelled_bytes xs ++ rest) ≡ also ++ (spelled_bytes ys ++ other) =
       sym (append_assoc own (spelled_bytes xs) rest) ∙ sym a.text_is ∙ b.text_is ∙ append_assoc also (spelled_bytes ys) other in
-      let same = same_front state own also (spelled_bytes xs ++ rest) (spelled_bytes ys ++ other) q r a.spelled.0 b.spelled.0 split in
+      let same = same_prefix state own also (spelled_bytes xs ++ rest) (spelled_bytes ys ++ other) q r a.spelled.0 b.spelled.0 split in
       let from : IsCut p (p.next state q) (spelled_bytes xs ++ rest) xs rest = record { last = a.last; spelled = a.spelled.1; text_is = refl; less = a.less } in
       let also_from : IsCut p (p.next state q) (spelled_bytes xs ++ rest) ys other = record { last = b.last; spelled = subst (λ x. Spellings p (p.next state x) ys b.last) same.1 b.spelled.1; text_is = sym same.2; less = b.less } in
       let more = one_cut_from (p.next state q) (spelled_bytes xs ++ rest) xs ys rest other from also_from in

@@ -9,8 +9,8 @@ use Rattle.wire_io.specs.Work.{Does, AlwaysEnds}
 use Rattle.wire_io.specs.Protocol.{Protocol, Spells, IsRest, Spelling, spelled_bytes, IsFilled}
 use Rattle.wire_io.specs.Session.{Exchange, bytes_of, Exchanges, Waits, Finishes, Ends, Session, Outlives, IsFinished, RestEnds, InputEnds, IsQuiet}
 use Rattle.wire_io.specs.Transcript.{end_of_rest}
-use Rattle.wire_io.proofs.Fronts.{fronts}
-use Rattle.wire_io.proofs.Cuts.{same_front, no_front, rest_of, none_whole}
+use Rattle.wire_io.proofs.Prefixes.{prefixes}
+use Rattle.wire_io.proofs.Cuts.{same_prefix, no_prefix, rest_of, none_whole}
 
 -- the end that a request makes of a session
 abbrev pub end_after : After → Option SessionEnd
@@ -28,23 +28,23 @@ module _ {State Request Call Answer : Type 0} (p : Protocol State Request Call A
     pub all : (unseen ≡ []) ⊎ (at + length seen ≡ limit)
     pub end_is : end ≡ end_of_rest limit at bytes
 
-  -- a request within the limit stands at the front, and its work ends so
+  -- a request within the limit stands at the start, and its work ends so
   pub record IsAhead (state : State) (at : ℕ) (bytes : List ℕ) (Ended : Request → Type 0) : Type 0 where
     pub own : List ℕ
     pub request : Request
-    pub behind : List ℕ
+    pub unread : List ℕ
     pub spelled : Spells p state own request
-    pub parts : bytes ≡ own ++ behind
+    pub parts : bytes ≡ own ++ unread
     pub within : at + length own ≤ limit
     pub ended : Ended request
 
   -- the one is the case or the other, not both
   pub never_both : (state : State) (at : ℕ) (bytes : List ℕ) (end : SessionEnd) (Ended : Request → Type 0) → IsLeft state at bytes end → IsAhead state at bytes Ended → ⊥
   never_both state at bytes end Ended left ahead = elim left.all [
-    | inl none ↦ no_front p state left.seen ahead.own ahead.behind ahead.request left.less ahead.spelled
+    | inl none ↦ no_prefix p state left.seen ahead.own ahead.unread ahead.request left.less ahead.spelled
         (sym (append-nil left.seen) ∙ ap (λ l. left.seen ++ l) (sym none) ∙ sym left.parts ∙ ahead.parts)
-    | inr full ↦ elim (fronts ahead.own left.seen ahead.behind left.unseen (sym ahead.parts ∙ left.parts)) [
-      | inl h ↦ no_front p state left.seen ahead.own h.0 ahead.request left.less ahead.spelled h.1
+    | inr full ↦ elim (prefixes ahead.own left.seen ahead.unread left.unseen (sym ahead.parts ∙ left.parts)) [
+      | inl h ↦ no_prefix p state left.seen ahead.own h.0 ahead.request left.less ahead.spelled h.1
       | inr h ↦ let sized : length ahead.own ≡ length left.seen + length (h.0 ∷ h.1) = ap length h.2 ∙ length-append left.seen (h.0 ∷ h.1) in absurd (omega (arith, sized, full, ahead.within))
     ]
   ]
@@ -75,7 +75,7 @@ module _ {State Request Call Answer : Type 0} (p : Protocol State Request Call A
       record {
         own = f.x.bytes;
         request = f.x.request;
-        behind = f.unread ++ left;
+        unread = f.unread ++ left;
         spelled = f.exchange.spelled;
         parts = ap (λ l. l ++ left) f.rest_is ∙ append_assoc f.x.bytes f.unread left;
         within = omega (arith, sized, fits);
@@ -103,7 +103,7 @@ module _ {State Request Call Answer : Type 0} (p : Protocol State Request Call A
 
   finished_always : (state : State) (at : ℕ) (bytes : List ℕ) (after : After) (due : SessionEnd) → IsFinished p limit state at bytes after → end_after after ≡ Some due
       → IsAhead state at bytes (λ request. EndsAlways due request state)
-  finished_always state at bytes after due f e = record { own = f.0; request = f.1; behind = f.2; spelled = f.3; parts = f.5; within = f.6; ended = (after, f.4, e) }
+  finished_always state at bytes after due f e = record { own = f.0; request = f.1; unread = f.2; spelled = f.3; parts = f.5; within = f.6; ended = (after, f.4, e) }
 
   -- what the input says of them
   pub due_forms : (state : State) (at : ℕ) (bytes : List ℕ) (due : SessionEnd) → RestEnds p limit state at bytes due
@@ -141,7 +141,7 @@ module _ {State Request Call Answer : Type 0} (p : Protocol State Request Call A
   both_ends state at bytes end due (inl a) (inr b) = absurd (never_both state at bytes end (λ request. EndsAlways due request state) a b)
   both_ends state at bytes end due (inr a) (inl b) = absurd (never_both state at bytes due (λ request. Ended end request state) b a)
   both_ends state at bytes end due (inr a) (inr b) =
-      let same = same_front p state a.own b.own a.behind b.behind a.request b.request a.spelled b.spelled (sym a.parts ∙ b.parts) in
+      let same = same_prefix p state a.own b.own a.unread b.unread a.request b.request a.spelled b.spelled (sym a.parts ∙ b.parts) in
       let e = a.ended in
       let always : AlwaysEnds (p.work state a.request) b.ended.0 = subst (λ r. AlwaysEnds (p.work state r) b.ended.0) same.1 b.ended.1 in
       one_end e.2 b.ended.0 end due (always e.0 e.1 e.2 e.3) e.4 b.ended.2
@@ -174,7 +174,7 @@ module _ {State Request Call Answer : Type 0} (p : Protocol State Request Call A
       → IsAhead state at bytes (λ request. (log : List (Call × Answer)) × (text : List ℕ) × Does (p.work state request) log text Open) → ⊥
   not_due state at bytes due (inl a) x = never_both state at bytes due _ a x
   not_due state at bytes due (inr a) x =
-      let same = same_front p state a.own x.own a.behind x.behind a.request x.request a.spelled x.spelled (sym a.parts ∙ x.parts) in
+      let same = same_prefix p state a.own x.own a.unread x.unread a.request x.request a.spelled x.spelled (sym a.parts ∙ x.parts) in
       let did = x.ended in
       let moved : Does (p.work state a.request) did.0 did.1 Open = subst (λ r. Does (p.work state r) did.0 did.1 Open) same.1 did.2 in
       let always = a.ended.1 did.0 did.1 Open moved in
@@ -185,7 +185,7 @@ module _ {State Request Call Answer : Type 0} (p : Protocol State Request Call A
   not_ended : (state : State) (at : ℕ) (bytes : List ℕ) (end : SessionEnd) → OwnForm state at bytes end → IsAhead state at bytes (λ request. AlwaysEnds (p.work state request) Open) → ⊥
   not_ended state at bytes end (inl a) y = never_both state at bytes end _ a y
   not_ended state at bytes end (inr a) y =
-      let same = same_front p state a.own y.own a.behind y.behind a.request y.request a.spelled y.spelled (sym a.parts ∙ y.parts) in
+      let same = same_prefix p state a.own y.own a.unread y.unread a.request y.request a.spelled y.spelled (sym a.parts ∙ y.parts) in
       let e = a.ended in
       let always : AlwaysEnds (p.work state a.request) Open = subst (λ r. AlwaysEnds (p.work state r) Open) same.1 y.ended in
       let none : end_after e.2 ≡ end_after Open = ap end_after (always e.0 e.1 e.2 e.3) in
@@ -223,7 +223,7 @@ module _ {State Request Call Answer : Type 0} (p : Protocol State Request Call A
       absurd (not_due state at bytes due form (record {
         own = x.bytes;
         request = x.request;
-        behind = (bytes_of ex ++ rest) ++ left;
+        unread = (bytes_of ex ++ rest) ++ left;
         spelled = outlived.0.spelled;
         parts = sym e ∙ ap (λ l. l ++ left) (append_assoc x.bytes (bytes_of ex) rest) ∙ append_assoc x.bytes (bytes_of ex ++ rest) left;
         within = fits_own at x.bytes (bytes_of ex) rest fits;
@@ -238,7 +238,7 @@ module _ {State Request Call Answer : Type 0} (p : Protocol State Request Call A
         | inl a ↦ absurd (not_ended state at (rest ++ left) end a (record {
           own = y.0;
           request = y.1;
-          behind = spelled_bytes xs ++ bytes;
+          unread = spelled_bytes xs ++ bytes;
           spelled = also.0;
           parts = e ∙ append_assoc y.0 (spelled_bytes xs) bytes;
           within = omega (arith, most, due_is, sized);
@@ -249,7 +249,7 @@ module _ {State Request Call Answer : Type 0} (p : Protocol State Request Call A
   ends_alike filled state last final at place due_place (x ∷ ex) (y ∷ xs) rest left bytes log text end due outlived ends place_is fits also due_ends due_is e quiet =
       let split : x.bytes ++ ((bytes_of ex ++ rest) ++ left) ≡ y.0 ++ (spelled_bytes xs ++ bytes) =
       sym (ap (λ l. l ++ left) (append_assoc x.bytes (bytes_of ex) rest) ∙ append_assoc x.bytes (bytes_of ex ++ rest) left) ∙ e ∙ append_assoc y.0 (spelled_bytes xs) bytes in
-      let same = same_front p state x.bytes y.0 ((bytes_of ex ++ rest) ++ left) (spelled_bytes xs ++ bytes) x.request y.1 outlived.0.spelled also.0 split in
+      let same = same_prefix p state x.bytes y.0 ((bytes_of ex ++ rest) ++ left) (spelled_bytes xs ++ bytes) x.request y.1 outlived.0.spelled also.0 split in
       let moved : Outlives p (p.next state x.request) xs final = subst (λ r. Outlives p (p.next state r) xs final) same.1 also.2 in
       let due_there : due_place ≡ at + length (x.bytes ++ spelled_bytes xs) = due_is ∙ ap (λ l. at + length (l ++ spelled_bytes xs)) same.0 in
       ends_alike filled (p.next state x.request) last final (at + length x.bytes) place due_place ex xs rest left bytes log text end due outlived.1 ends

@@ -60,9 +60,9 @@ module _ {State Request Call Answer : Type 0} (p : Protocol State Request Call A
         ends = (some, omega (arith, lt), omega arith, rest_of p filled state (b ∷ bs) none);
       }
 
-  -- no front of a front is whole
-  none_before : (state : State) (front more : List ℕ) → NoneWhole p state (front ++ more) → NoneWhole p state front
-  none_before state front more none a b e = none a (b ++ more) (ap (λ l. l ++ more) e ∙ append_assoc a b more)
+  -- no prefix of a prefix is whole
+  none_before : (state : State) (prefix more : List ℕ) → NoneWhole p state (prefix ++ more) → NoneWhole p state prefix
+  none_before state prefix more none a b e = none a (b ++ more) (ap (λ l. l ++ more) e ∙ append_assoc a b more)
 
   left_over : (state : State) (at : ℕ) (bytes : List ℕ) → at ≤ limit → NoneWhole p state bytes → EndsFrom state at bytes
   left_over state at bytes within none = elim (leb_tells limit (at + length bytes)) [
@@ -70,14 +70,14 @@ module _ {State Request Call Answer : Type 0} (p : Protocol State Request Call A
     | inr h ↦ short state at bytes h.1 none
   ]
 
-  -- no front of a request that goes beyond the limit is whole
-  cut_short : (state : State) (n : ℕ) (bytes own behind : List ℕ) (request : Request) → Spells p state own request → bytes ≡ own ++ behind → n < length own → NoneWhole p state (take n bytes)
-  cut_short state n bytes own behind request spelled parts lt a b e =
-      let front : take n bytes ≡ take n own = ap (take n) parts ∙ take-append-le n own behind (omega (arith, lt)) in
+  -- no prefix of a request that goes beyond the limit is whole
+  cut_short : (state : State) (n : ℕ) (bytes own unread : List ℕ) (request : Request) → Spells p state own request → bytes ≡ own ++ unread → n < length own → NoneWhole p state (take n bytes)
+  cut_short state n bytes own unread request spelled parts lt a b e =
+      let prefix : take n bytes ≡ take n own = ap (take n) parts ∙ take-append-le n own unread (omega (arith, lt)) in
       let sized : length (drop n own) ≡ length own - n = length-drop n own in
       let left = some_first (drop n own) (omega (arith, sized, lt)) in
       let whole : own ≡ a ++ (b ++ (left.0 ∷ left.1)) =
-      sym (take-append-drop n own) ∙ ap (λ l. l ++ drop n own) (sym front ∙ e) ∙ append_assoc a b (drop n own) ∙ ap (λ l. a ++ (b ++ l)) left.2 in
+      sym (take-append-drop n own) ∙ ap (λ l. l ++ drop n own) (sym prefix ∙ e) ∙ append_assoc a b (drop n own) ∙ ap (λ l. a ++ (b ++ l)) left.2 in
       let more : (c : ℕ) × (m : List ℕ) × (b ++ (left.0 ∷ left.1) ≡ c ∷ m) = some_after b left.0 left.1 in
       spelled.first a more.0 more.1 (whole ∙ ap (λ l. a ++ l) more.2)
     where
@@ -85,10 +85,10 @@ module _ {State Request Call Answer : Type 0} (p : Protocol State Request Call A
       some_after [] x xs = (x, xs, refl)
       some_after (y ∷ b) x xs = (y, b ++ (x ∷ xs), refl)
 
-  -- a request within the limit stands at the front
-  served : (state : State) (at : ℕ) (bytes own behind : List ℕ) (request : Request) → Spells p state own request → bytes ≡ own ++ behind → at + length own ≤ limit
-      → (word : After) → AlwaysEnds (p.work state request) word → EndsFrom (p.next state request) (at + length own) behind → EndsFrom state at bytes
-  served state at bytes own behind request spelled parts fits Open always later =
+  -- a request within the limit stands at the start
+  served : (state : State) (at : ℕ) (bytes own unread : List ℕ) (request : Request) → Spells p state own request → bytes ≡ own ++ unread → at + length own ≤ limit
+      → (word : After) → AlwaysEnds (p.work state request) word → EndsFrom (p.next state request) (at + length own) unread → EndsFrom state at bytes
+  served state at bytes own unread request spelled parts fits Open always later =
       let sized : length (own ++ spelled_bytes later.xs) ≡ length own + length (spelled_bytes later.xs) = length-append own (spelled_bytes later.xs) in
       let place : (at + length own) + length (spelled_bytes later.xs) ≡ at + length (own ++ spelled_bytes later.xs) = omega (arith, sized) in
       record {
@@ -100,10 +100,10 @@ module _ {State Request Call Answer : Type 0} (p : Protocol State Request Call A
         bytes_are = parts ∙ ap (λ l. own ++ l) later.bytes_are ∙ sym (append_assoc own (spelled_bytes later.xs) later.rest);
         ends = subst (λ n. RestEnds p limit later.last n later.rest later.due) place later.ends;
       }
-  served state at bytes own behind request spelled parts fits Closing always later =
-      record { xs = []; last = state; rest = bytes; due = Closed; outlived = refl; bytes_are = refl; ends = inr (own, request, behind, spelled, always, parts, omega (arith, fits)) }
-  served state at bytes own behind request spelled parts fits Stopping always later =
-      record { xs = []; last = state; rest = bytes; due = Stopped; outlived = refl; bytes_are = refl; ends = (own, request, behind, spelled, always, parts, omega (arith, fits)) }
+  served state at bytes own unread request spelled parts fits Closing always later =
+      record { xs = []; last = state; rest = bytes; due = Closed; outlived = refl; bytes_are = refl; ends = inr (own, request, unread, spelled, always, parts, omega (arith, fits)) }
+  served state at bytes own unread request spelled parts fits Stopping always later =
+      record { xs = []; last = state; rest = bytes; due = Stopped; outlived = refl; bytes_are = refl; ends = (own, request, unread, spelled, always, parts, omega (arith, fits)) }
 
   found_first : (state : State) (at : ℕ) (bytes : List ℕ) → at ≤ limit → ((s : State) (n : ℕ) (t : List ℕ) → length t < length bytes → n ≤ limit → EndsFrom s n t)
       → (o : Option (Found Request)) → IsFind p state bytes o → EndsFrom state at bytes
@@ -112,13 +112,13 @@ module _ {State Request Call Answer : Type 0} (p : Protocol State Request Call A
     | inl h ↦
         let byte = some_byte p filled state f.own f.request is.0 in
         let one : length f.own ≡ suc (length byte.1) = ap length byte.2 in
-        let sized : length bytes ≡ length f.own + length f.behind = ap length is.1 ∙ length-append f.own f.behind in
+        let sized : length bytes ≡ length f.own + length f.unread = ap length is.1 ∙ length-append f.own f.unread in
         let word = one_way state f.request in
-        served state at bytes f.own f.behind f.request is.0 is.1 h.1 word.0 word.1
-        (deeper (p.next state f.request) (at + length f.own) f.behind (omega (arith, one, sized)) h.1)
+        served state at bytes f.own f.unread f.request is.0 is.1 h.1 word.0 word.1
+        (deeper (p.next state f.request) (at + length f.own) f.unread (omega (arith, one, sized)) h.1)
     | inr h ↦
-        let sized : length bytes ≡ length f.own + length f.behind = ap length is.1 ∙ length-append f.own f.behind in
-        full state at bytes within (omega (arith, sized, h.1)) (cut_short state (limit - at) bytes f.own f.behind f.request is.0 is.1 (omega (arith, h.1)))
+        let sized : length bytes ≡ length f.own + length f.unread = ap length is.1 ∙ length-append f.own f.unread in
+        full state at bytes within (omega (arith, sized, h.1)) (cut_short state (limit - at) bytes f.own f.unread f.request is.0 is.1 (omega (arith, h.1)))
   ]
 
   ends_from : (most : ℕ) (state : State) (at : ℕ) (bytes : List ℕ) → length bytes ≤ most → at ≤ limit → EndsFrom state at bytes

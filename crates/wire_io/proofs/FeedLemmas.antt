@@ -28,8 +28,8 @@ Hands-trans a b c u v w m n k given more first second = record {
 }
 
 -- the first bytes that wait are handed out
-pub Hands-front : (left : Option (List ℕ)) (waiting : List ℕ) (taken n : ℕ) → Hands left left waiting (drop n waiting) taken taken (take n waiting)
-Hands-front left waiting taken n = record {
+pub Hands-prefix : (left : Option (List ℕ)) (waiting : List ℕ) (taken n : ℕ) → Hands left left waiting (drop n waiting) taken taken (take n waiting)
+Hands-prefix left waiting taken n = record {
   got = [];
   consumed = Consumes-nil left;
   joined = append-nil waiting ∙ sym (take-append-drop n waiting);
@@ -74,7 +74,7 @@ pub reached_more : (out mid new : List ℕ) (a b c c' : Option (List ℕ)) (u v 
 reached_more out mid new a b c c' u v w x m n k k' most room count so_far ready within fits grown rest same_left same_taken =
     let more : gained out new ≡ gained out mid ++ take count w = gained_more out mid new (take count w) so_far.grows grown in
     let first : Hands a c u w m k (gained out mid) = Hands-taken a b c c u v w w m n k k _ _ so_far.hands ready refl refl refl refl in
-    let both : Hands a c u (drop count w) m k (gained out mid ++ take count w) = Hands-trans a c c u w (drop count w) m k k _ _ first (Hands-front c w k count) in
+    let both : Hands a c u (drop count w) m k (gained out mid ++ take count w) = Hands-trans a c c u w (drop count w) m k k _ _ first (Hands-prefix c w k count) in
     let nothing : Hands c c (drop count w) (drop count w) k k [] = Hands-nil c (drop count w) k in
     record {
       grows = grown ∙ ap (λ l. l ++ take count w) so_far.grows ∙ append_assoc out (gained out mid) (take count w) ∙ ap (λ l. out ++ l) (sym more);

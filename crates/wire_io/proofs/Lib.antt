@@ -1,4 +1,4 @@
-pub mod Fronts
+pub mod Prefixes
 pub mod Cuts
 pub mod Deciding
 pub mod Transcribing

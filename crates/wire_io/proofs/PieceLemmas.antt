@@ -15,11 +15,11 @@ pub slice_from : (xs : List ℕ) (n : ℕ) → take (length xs - n) (drop n xs) 
 slice_from xs n = take_all (length xs - n) (drop n xs) (omega (arith, length-drop n xs))
 
 -- what is left, where its first n bytes were copied over those of a buffer
-pub copied_front : (bytes buffer front : List ℕ) (at n : ℕ) → n ≤ length (take (length bytes - at) (drop at bytes)) → front ≡ take n (take (length bytes - at) (drop at bytes))
-    → drop at bytes ≡ take n (front ++ drop n buffer) ++ drop (at + n) bytes
-copied_front bytes buffer front at n fits copied =
-    let is : front ≡ take n (drop at bytes) = copied ∙ ap (take n) (slice_from bytes at) in
+pub copied_prefix : (bytes buffer prefix : List ℕ) (at n : ℕ) → n ≤ length (take (length bytes - at) (drop at bytes)) → prefix ≡ take n (take (length bytes - at) (drop at bytes))
+    → drop at bytes ≡ take n (prefix ++ drop n buffer) ++ drop (at + n) bytes
+copied_prefix bytes buffer prefix at n fits copied =
+    let is : prefix ≡ take n (drop at bytes) = copied ∙ ap (take n) (slice_from bytes at) in
     let short : n ≤ length (drop at bytes) = subst (λ l. n ≤ length l) (slice_from bytes at) fits in
-    let long : length front ≡ n = ap length is ∙ length-take-le n (drop at bytes) short in
-    let first : take n (front ++ drop n buffer) ≡ front = subst (λ k. take k (front ++ drop n buffer) ≡ front) long (take-append_seam front (drop n buffer)) in
-    sym (take-append-drop n (drop at bytes)) ∙ ap (λ l. l ++ drop n (drop at bytes)) (sym (first ∙ is)) ∙ ap (λ l. take n (front ++ drop n buffer) ++ l) (drop-drop n at bytes)
+    let long : length prefix ≡ n = ap length is ∙ length-take-le n (drop at bytes) short in
+    let first : take n (prefix ++ drop n buffer) ≡ prefix = subst (λ k. take k (prefix ++ drop n buffer) ≡ prefix) long (take-append_seam prefix (drop n buffer)) in
+    sym (take-append-drop n (drop at bytes)) ∙ ap (λ l. l ++ drop n (drop at bytes)) (sym (first ∙ is)) ∙ ap (λ l. take n (prefix ++ drop n buffer) ++ l) (drop-drop n at bytes)

@@ -11,7 +11,7 @@ use Rattle.wire_io.specs.declared.ends.FeedEnd.TheVariants.{Fault, Ended, Limit,
 use Rattle.wire_io.specs.Feeding.{Hands}
 use Rattle.wire_io.specs.Sending.{AppendsPart}
 use Rattle.wire_io.specs.Protocol.{Protocol, IsRest, IsFilled}
-use Rattle.wire_io.specs.Session.{IsFront, IsPartOrAll, Waits, Ends}
+use Rattle.wire_io.specs.Session.{IsPrefix, IsPartOrAll, Waits, Ends}
 use Rattle.wire_io.specs.Requests.{Answered, Abandoned, TakesRequest, ServesRequest, end_at}
 use Rattle.wire_io.proofs.Cuts.{some_byte}
 
@@ -96,15 +96,15 @@ module _ {State Request Call Answer : Type 0} (p : Protocol State Request Call A
             record { come = given; unread = waiting'; part_or_all = inl (rest h.0); rest_is = refl; prompted = prompts; begun = inl refl }
 
   -- a write of the prompts failed; what is written of them is a prefix of those of the bytes that came
-  pub take_cut : (given : List ℕ) → Hands left left' waiting waiting' taken taken' given → at' ≡ at + length given → IsPartOrAll p state given → IsFront prompted (p.prompts state given) → Logs [] → (text : List ℕ)
+  pub take_cut : (given : List ℕ) → Hands left left' waiting waiting' taken taken' given → at' ≡ at + length given → IsPartOrAll p state given → IsPrefix prompted (p.prompts state given) → Logs [] → (text : List ℕ)
       → TakesRequest p limit state state' Logs left left' waiting waiting' taken taken' at at' prompted text (Err WriteFault)
-  take_cut given hands counts come front none text = record {
+  take_cut given hands counts come prefix none text = record {
     given = given;
     log = [];
     hands = hands;
     counts = counts;
     logged = none;
-    comes = inr (record { come = given; unread = waiting'; part_or_all = come; rest_is = refl; no_calls = refl; front = front });
+    comes = inr (record { come = given; unread = waiting'; part_or_all = come; rest_is = refl; no_calls = refl; prefix = prefix });
   }
 
   -- a request has a byte
@@ -130,7 +130,7 @@ module _ {State Request Call Answer : Type 0} (p : Protocol State Request Call A
       served = t.comes;
     }
 
-    -- a front of it was
+    -- a prefix of it was
     pub serve_cut : (after : After) → TakesRequest p limit state state' Logs left left' waiting waiting' taken taken' at at' prompted text (Ok after) → AppendsPart sent written' text
         → ServesRequest p limit state state' Logs left left' written written' waiting waiting' taken taken' at at' (Err WriteFault)
     serve_cut after t part =
@@ -150,7 +150,7 @@ module _ {State Request Call Answer : Type 0} (p : Protocol State Request Call A
             exchange = t.comes.1;
             rest_is = ap (λ l. l ++ waiting') t.comes.2;
             log_is = t.comes.3;
-            front = (
+            prefix = (
               drop part.0 text,
               sym t.comes.4 ∙ ap (λ l. prompted ++ l) (sym (take-append-drop part.0 text)) ∙ sym (append_assoc prompted (take part.0 text) (drop part.0 text)),
             );

@@ -6,7 +6,7 @@ use Rattle.std.specs.declared.option.Option.{Option}
 use Rattle.std.specs.Io.KnownBytes.{Appends}
 use Rattle.wire_io.proofs.PieceLemmas.{slice_from}
 
--- a front of the bytes was written, and then the next of them
+-- a prefix of the bytes was written, and then the next of them
 pub Appends-take : (a b c : Option (List ℕ)) (xs : List ℕ) (n m : ℕ) → Appends a b (take n xs) → Appends b c (take m (take (length xs - n) (drop n xs)))
     → Appends a c (take (n + m) xs)
 Appends-take a b c xs n m first second =

@@ -147,7 +147,7 @@ module _ {State Request Call Answer : Type 0} (p : Protocol State Request Call A
       });
     }
 
-    -- or a front of it alone
+    -- or a prefix of it alone
     pub not_greeted : (left written written' : Option (List ℕ)) → Logs [] → AppendsPart written written' greeting → IsSession p greeting start limit Logs left left written written' WriteFault
     not_greeted left written written' made part = record {
       taken = [];
@@ -183,3 +183,19 @@ module _ {State Request Call Answer : Type 0} (p : Protocol State Request Call A
   session_done greeting start limit own Logs left given left' kept written met written' end e f same hello s =
       session_of greeting start limit Logs left given left' kept written written' end e f
       (greeted greeting start limit Logs given left' written met written' end hello (subst (λ n. IsServed p start n Logs given left' met written' end) same s))
+
+  -- a session whose calls meet one relation is one whose calls meet each relation that follows
+  pub session_with : (greeting : List ℕ) (start : State) (limit : ℕ)
+      (Logs Logs' : List (Call × Answer) → Type 0) (left left' written written' : Option (List ℕ))
+      (end : SessionEnd) → ((log : List (Call × Answer)) → Logs log → Logs' log)
+      → IsSession p greeting start limit Logs left left' written written' end
+      → IsSession p greeting start limit Logs' left left' written written' end
+  session_with greeting start limit Logs Logs' left left' written written' end follows s = record {
+    taken = s.taken;
+    log = s.log;
+    text = s.text;
+    consumed = s.consumed;
+    appended = s.appended;
+    logged = follows s.log s.logged;
+    session = s.session;
+  }

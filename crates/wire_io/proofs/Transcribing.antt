@@ -10,7 +10,7 @@ use Rattle.wire_io.specs.Work.{Work, ask, say, Does}
 use Rattle.wire_io.specs.Protocol.{Protocol, Spells, IsRest, IsFilled}
 use Rattle.wire_io.specs.Session.{Exchange, bytes_of, log_of, text_of, Exchanges, Waits, Finishes, Ends, Session, IsQuiet}
 use Rattle.wire_io.specs.Transcript.{Transcript, Answers, IsAnswered, Done, perform, Found, or_waits, going_on, end_of_rest, first_request, transcript_from, transcript}
-use Rattle.wire_io.proofs.Cuts.{same_front, no_front, some_byte, find_is, IsFind}
+use Rattle.wire_io.proofs.Cuts.{same_prefix, no_prefix, some_byte, find_is, IsFind}
 use Rattle.wire_io.proofs.Deciding.{end_none, end_short, end_full}
 
 -- the first elements of a list and more
@@ -42,20 +42,20 @@ module _ {World Call Answer : Type 0} (by : Answers World Call Answer) where
   answered_split world last (entry ∷ a) b is = let more = answered_split (by.after world entry.0) last a b is.1 in (more.0, (is.0, more.1), more.2)
 
 module _ {State Request Call Answer World : Type 0} (p : Protocol State Request Call Answer) (by : Answers World Call Answer) (limit : ℕ) where
-  found_record : (own own' behind behind' : List ℕ) (q q' : Request) → own' ≡ own → q' ≡ q → behind' ≡ behind
-      → ◌≡◌ {A = Found Request} (record { own = own'; request = q'; behind = behind' }) (record { own = own; request = q; behind = behind })
-  found_record own own' behind behind' q q' i j k = cc
+  found_record : (own own' unread behind' : List ℕ) (q q' : Request) → own' ≡ own → q' ≡ q → behind' ≡ unread
+      → ◌≡◌ {A = Found Request} (record { own = own'; request = q'; unread = behind' }) (record { own = own; request = q; unread = unread })
+  found_record own own' unread behind' q q' i j k = cc
 
-  -- a spelling at the front is what is found first
-  found_first : (state : State) (text own behind : List ℕ) (q : Request) → Spells p state own q → text ≡ own ++ behind
-      → first_request p state [] text ≡ Some (record { own = own; request = q; behind = behind })
-  found_first state text own behind q spelled e = go (first_request p state [] text) (find_is p state text)
+  -- a spelling at the start is what is found first
+  found_first : (state : State) (text own unread : List ℕ) (q : Request) → Spells p state own q → text ≡ own ++ unread
+      → first_request p state [] text ≡ Some (record { own = own; request = q; unread = unread })
+  found_first state text own unread q spelled e = go (first_request p state [] text) (find_is p state text)
     where
-      go : (o : Option (Found Request)) → IsFind p state text o → o ≡ Some (record { own = own; request = q; behind = behind })
-      go None is = let gone : p.whole state own ≡ None = is own behind e in let here : p.whole state own ≡ Some q = spelled.whole in absurd cc
+      go : (o : Option (Found Request)) → IsFind p state text o → o ≡ Some (record { own = own; request = q; unread = unread })
+      go None is = let gone : p.whole state own ≡ None = is own unread e in let here : p.whole state own ≡ Some q = spelled.whole in absurd cc
       go (Some f) is =
-          let same = same_front p state own f.own behind f.behind q f.request spelled is.0 (sym e ∙ is.1) in
-          ap Some (found_record own f.own behind f.behind q f.request same.0 same.1 same.2)
+          let same = same_prefix p state own f.own unread f.unread q f.request spelled is.0 (sym e ∙ is.1) in
+          ap Some (found_record own f.own unread f.unread q f.request same.0 same.1 same.2)
 
   -- in less than a request none is found
   none_first : (state : State) (rest : List ℕ) → IsRest p state rest → first_request p state [] rest ≡ None
@@ -63,88 +63,88 @@ module _ {State Request Call Answer World : Type 0} (p : Protocol State Request 
     where
       go : (o : Option (Found Request)) → IsFind p state rest o → o ≡ None
       go None is = refl
-      go (Some f) is = absurd (no_front p state rest f.own f.behind f.request less is.0 is.1)
+      go (Some f) is = absurd (no_prefix p state rest f.own f.unread f.request less is.0 is.1)
 
-  abbrev after_request : (most : ℕ) → State → (at : ℕ) → List ℕ → List ℕ → Request → Done World → Transcript
-  after_request most state at own behind q done =
-      going_on done.after (p.prompts state own ++ done.text) (transcript_from p by limit most (p.next state q) done.world (at + length own) behind)
+  abbrev after_request : (rounds : ℕ) → State → (at : ℕ) → List ℕ → List ℕ → Request → Done World → Transcript
+  after_request rounds state at own unread q done =
+      going_on done.after (p.prompts state own ++ done.text) (transcript_from p by limit rounds (p.next state q) done.world (at + length own) unread)
 
-  -- the transcript goes by the request at the front
-  goes_by : (most : ℕ) (state : State) (world last : World) (at : ℕ) (text own behind : List ℕ) (q : Request) (log : List (Call × Answer)) (answer : List ℕ) (after : After)
-      → Spells p state own q → text ≡ own ++ behind → Does (p.work state q) log answer after → IsAnswered by world log last
-      → transcript_from p by limit (suc most) state world at text ≡ after_request most state at own behind q (record { text = answer; after = after; world = last })
-  goes_by most state world last at text own behind q log answer after spelled e did answered =
-      ap (λ o. or_waits o (record { text = p.prompts state text; end = end_of_rest limit at text }) (λ f. after_request most state at f.own f.behind f.request (perform by world (p.work state f.request)))) (found_first state text own behind q spelled e)
-      ∙ ap (after_request most state at own behind q) (perform_is by (p.work state q) world last log answer after did answered)
+  -- the transcript goes by the request at the start
+  goes_by : (rounds : ℕ) (state : State) (world last : World) (at : ℕ) (text own unread : List ℕ) (q : Request) (log : List (Call × Answer)) (answer : List ℕ) (after : After)
+      → Spells p state own q → text ≡ own ++ unread → Does (p.work state q) log answer after → IsAnswered by world log last
+      → transcript_from p by limit (suc rounds) state world at text ≡ after_request rounds state at own unread q (record { text = answer; after = after; world = last })
+  goes_by rounds state world last at text own unread q log answer after spelled e did answered =
+      ap (λ o. or_waits o (record { text = p.prompts state text; end = end_of_rest limit at text }) (λ f. after_request rounds state at f.own f.unread f.request (perform by world (p.work state f.request)))) (found_first state text own unread q spelled e)
+      ∙ ap (after_request rounds state at own unread q) (perform_is by (p.work state q) world last log answer after did answered)
 
-  waits_there : (most : ℕ) (state : State) (world : World) (at : ℕ) (rest : List ℕ) → IsRest p state rest
-      → transcript_from p by limit (suc most) state world at rest ≡ record { text = p.prompts state rest; end = end_of_rest limit at rest }
-  waits_there most state world at rest less =
-      ap (λ o. or_waits o (record { text = p.prompts state rest; end = end_of_rest limit at rest }) (λ f. after_request most state at f.own f.behind f.request (perform by world (p.work state f.request)))) (none_first state rest less)
+  waits_there : (rounds : ℕ) (state : State) (world : World) (at : ℕ) (rest : List ℕ) → IsRest p state rest
+      → transcript_from p by limit (suc rounds) state world at rest ≡ record { text = p.prompts state rest; end = end_of_rest limit at rest }
+  waits_there rounds state world at rest less =
+      ap (λ o. or_waits o (record { text = p.prompts state rest; end = end_of_rest limit at rest }) (λ f. after_request rounds state at f.own f.unread f.request (perform by world (p.work state f.request)))) (none_first state rest less)
 
   transcript_eq : (a b : List ℕ) (end due : SessionEnd) → a ≡ b → end ≡ due → ◌≡◌ {A = Transcript} (record { text = a; end = end }) (record { text = b; end = due })
   transcript_eq a b end due i j = cc
 
-  finishes_there : (most : ℕ) (state : State) (world last : World) (at : ℕ) (text rest left : List ℕ) (log : List (Call × Answer)) (written : List ℕ) (after : After) (end : SessionEnd)
+  finishes_there : (rounds : ℕ) (state : State) (world last : World) (at : ℕ) (text rest left : List ℕ) (log : List (Call × Answer)) (written : List ℕ) (after : After) (end : SessionEnd)
       → Finishes p state rest log written after → text ≡ rest ++ left → IsAnswered by world log last
       → ((answer : List ℕ) (more : Transcript) → going_on after answer more ≡ record { text = answer; end = end })
-      → transcript_from p by limit (suc most) state world at text ≡ record { text = written; end = end }
-  finishes_there most state world last at text rest left log written after end f e answered stops =
+      → transcript_from p by limit (suc rounds) state world at text ≡ record { text = written; end = end }
+  finishes_there rounds state world last at text rest left log written after end f e answered stops =
       let x = f.x in
       let parts : text ≡ x.bytes ++ (f.unread ++ left) = e ∙ ap (λ l. l ++ left) f.rest_is ∙ append_assoc x.bytes f.unread left in
       let own : IsAnswered by world x.log last = subst (λ l. IsAnswered by world l last) f.log_is answered in
-      goes_by most state world last at text x.bytes (f.unread ++ left) x.request x.log f.exchange.answer after f.exchange.spelled parts f.exchange.worked own
+      goes_by rounds state world last at text x.bytes (f.unread ++ left) x.request x.log f.exchange.answer after f.exchange.spelled parts f.exchange.worked own
       ∙ stops (p.prompts state x.bytes ++ f.exchange.answer) _
       ∙ transcript_eq (p.prompts state x.bytes ++ f.exchange.answer) written end end (sym (f.text_is ∙ f.exchange.written)) refl
 
-  waits_with : (most : ℕ) (state : State) (world : World) (at : ℕ) (text rest : List ℕ) (log : List (Call × Answer)) (written : List ℕ) (end : SessionEnd)
-      → Waits p state rest log written → text ≡ rest → end_of_rest limit at rest ≡ end → transcript_from p by limit (suc most) state world at text ≡ record { text = written; end = end }
-  waits_with most state world at text rest log written end waits e ended =
-      ap (transcript_from p by limit (suc most) state world at) e ∙ waits_there most state world at rest waits.less ∙ transcript_eq (p.prompts state rest) written (end_of_rest limit at rest) end (sym waits.prompted) ended
+  waits_with : (rounds : ℕ) (state : State) (world : World) (at : ℕ) (text rest : List ℕ) (log : List (Call × Answer)) (written : List ℕ) (end : SessionEnd)
+      → Waits p state rest log written → text ≡ rest → end_of_rest limit at rest ≡ end → transcript_from p by limit (suc rounds) state world at text ≡ record { text = written; end = end }
+  waits_with rounds state world at text rest log written end waits e ended =
+      ap (transcript_from p by limit (suc rounds) state world at) e ∙ waits_there rounds state world at rest waits.less ∙ transcript_eq (p.prompts state rest) written (end_of_rest limit at rest) end (sym waits.prompted) ended
 
   -- the end of the session is the end of the transcript
-  ends_there : (most : ℕ) (state : State) (world last : World) (at : ℕ) (rest left : List ℕ) (log : List (Call × Answer)) (written : List ℕ) (end : SessionEnd)
+  ends_there : (rounds : ℕ) (state : State) (world last : World) (at : ℕ) (rest left : List ℕ) (log : List (Call × Answer)) (written : List ℕ) (end : SessionEnd)
       → Ends p limit (left ≡ []) state at rest log written end → at + length (rest ++ left) ≤ limit → IsAnswered by world log last → IsQuiet end → end ≢ NoMemory
-      → transcript_from p by limit (suc most) state world at (rest ++ left) ≡ record { text = written; end = end }
-  ends_there most state world last at rest left log written Closed (inl h) fits answered quiet some =
-      waits_with most state world at (rest ++ left) rest log written Closed h.3 (ap (λ l. rest ++ l) h.2 ∙ append-nil rest) (ap (end_of_rest limit at) h.0 ∙ end_none p limit at h.1)
-  ends_there most state world last at rest left log written Closed (inr f) fits answered quiet some =
-      finishes_there most state world last at (rest ++ left) rest left log written Closing Closed f refl answered (λ a m. refl)
-  ends_there most state world last at rest left log written Stopped f fits answered quiet some =
-      finishes_there most state world last at (rest ++ left) rest left log written Stopping Stopped f refl answered (λ a m. refl)
-  ends_there most state world last at rest left log written (Truncated offset) h fits answered quiet some =
-      waits_with most state world at (rest ++ left) rest log written (Truncated offset) h.4 (ap (λ l. rest ++ l) h.2 ∙ append-nil rest) (end_short p limit at rest h.0 h.1 ∙ ap Truncated (sym h.3))
-  ends_there most state world last at rest left log written InputLimit h fits answered quiet some =
+      → transcript_from p by limit (suc rounds) state world at (rest ++ left) ≡ record { text = written; end = end }
+  ends_there rounds state world last at rest left log written Closed (inl h) fits answered quiet some =
+      waits_with rounds state world at (rest ++ left) rest log written Closed h.3 (ap (λ l. rest ++ l) h.2 ∙ append-nil rest) (ap (end_of_rest limit at) h.0 ∙ end_none p limit at h.1)
+  ends_there rounds state world last at rest left log written Closed (inr f) fits answered quiet some =
+      finishes_there rounds state world last at (rest ++ left) rest left log written Closing Closed f refl answered (λ a m. refl)
+  ends_there rounds state world last at rest left log written Stopped f fits answered quiet some =
+      finishes_there rounds state world last at (rest ++ left) rest left log written Stopping Stopped f refl answered (λ a m. refl)
+  ends_there rounds state world last at rest left log written (Truncated offset) h fits answered quiet some =
+      waits_with rounds state world at (rest ++ left) rest log written (Truncated offset) h.4 (ap (λ l. rest ++ l) h.2 ∙ append-nil rest) (end_short p limit at rest h.0 h.1 ∙ ap Truncated (sym h.3))
+  ends_there rounds state world last at rest left log written InputLimit h fits answered quiet some =
       let sized : length (rest ++ left) ≡ length rest + length left = length-append rest left in
       let none : length left ≡ 0 = omega (arith, sized, fits, h.0) in
-      waits_with most state world at (rest ++ left) rest log written InputLimit h.1 (ap (λ l. rest ++ l) (nil_from_length left none) ∙ append-nil rest) (end_full p limit at rest (omega (arith, h.0)))
-  ends_there most state world last at rest left log written ReadFault h fits answered quiet some = absurd (quiet.0 refl)
-  ends_there most state world last at rest left log written WriteFault h fits answered quiet some = absurd (quiet.1 refl)
-  ends_there most state world last at rest left log written NoMemory h fits answered quiet some = absurd (some refl)
+      waits_with rounds state world at (rest ++ left) rest log written InputLimit h.1 (ap (λ l. rest ++ l) (nil_from_length left none) ∙ append-nil rest) (end_full p limit at rest (omega (arith, h.0)))
+  ends_there rounds state world last at rest left log written ReadFault h fits answered quiet some = absurd (quiet.0 refl)
+  ends_there rounds state world last at rest left log written WriteFault h fits answered quiet some = absurd (quiet.1 refl)
+  ends_there rounds state world last at rest left log written NoMemory h fits answered quiet some = absurd (some refl)
 
   place_behind : (at place : ℕ) (own rest : List ℕ) → place ≡ at + length (own ++ rest) → place ≡ (at + length own) + length rest
   place_behind at place own rest e = let sized : length (own ++ rest) ≡ length own + length rest = length-append own rest in omega (arith, e, sized)
 
   -- from a place on, the session is the transcript
-  transcribed : IsFilled p → (most : ℕ) (state final : State) (world last : World) (at place : ℕ) (ex : List (Exchange Request Call Answer)) (rest left : List ℕ) (log : List (Call × Answer)) (written : List ℕ) (end : SessionEnd)
+  transcribed : IsFilled p → (rounds : ℕ) (state final : State) (world last : World) (at place : ℕ) (ex : List (Exchange Request Call Answer)) (rest left : List ℕ) (log : List (Call × Answer)) (written : List ℕ) (end : SessionEnd)
       → Exchanges p state ex final → Ends p limit (left ≡ []) final place rest log written end → place ≡ at + length (bytes_of ex)
-      → at + length (bytes_of ex ++ (rest ++ left)) ≤ limit → length (bytes_of ex ++ (rest ++ left)) < most → IsAnswered by world (log_of ex ++ log) last → IsQuiet end → end ≢ NoMemory
-      → transcript_from p by limit most state world at (bytes_of ex ++ (rest ++ left)) ≡ record { text = text_of ex ++ written; end = end }
+      → at + length (bytes_of ex ++ (rest ++ left)) ≤ limit → length (bytes_of ex ++ (rest ++ left)) < rounds → IsAnswered by world (log_of ex ++ log) last → IsQuiet end → end ≢ NoMemory
+      → transcript_from p by limit rounds state world at (bytes_of ex ++ (rest ++ left)) ≡ record { text = text_of ex ++ written; end = end }
   transcribed filled zero state final world last at place ex rest left log written end outlived ends place_is fits lt answered quiet some = absurd (omega (arith, lt))
-  transcribed filled (suc most) state final world last at place [] rest left log written end outlived ends place_is fits lt answered quiet some =
+  transcribed filled (suc rounds) state final world last at place [] rest left log written end outlived ends place_is fits lt answered quiet some =
       let here : place ≡ at = omega (arith, place_is) in
       let own : Ends p limit (left ≡ []) state at rest log written end = subst (λ n. Ends p limit (left ≡ []) state n rest log written end) here (subst (λ s. Ends p limit (left ≡ []) s place rest log written end) outlived ends) in
-      ends_there most state world last at rest left log written end own fits answered quiet some
-  transcribed filled (suc most) state final world last at place (x ∷ ex) rest left log written end outlived ends place_is fits lt answered quiet some =
-      let behind = bytes_of ex ++ (rest ++ left) in
-      let parts : (x.bytes ++ bytes_of ex) ++ (rest ++ left) ≡ x.bytes ++ behind = append_assoc x.bytes (bytes_of ex) (rest ++ left) in
-      let sized : length ((x.bytes ++ bytes_of ex) ++ (rest ++ left)) ≡ length x.bytes + length behind = ap length parts ∙ length-append x.bytes behind in
+      ends_there rounds state world last at rest left log written end own fits answered quiet some
+  transcribed filled (suc rounds) state final world last at place (x ∷ ex) rest left log written end outlived ends place_is fits lt answered quiet some =
+      let unread = bytes_of ex ++ (rest ++ left) in
+      let parts : (x.bytes ++ bytes_of ex) ++ (rest ++ left) ≡ x.bytes ++ unread = append_assoc x.bytes (bytes_of ex) (rest ++ left) in
+      let sized : length ((x.bytes ++ bytes_of ex) ++ (rest ++ left)) ≡ length x.bytes + length unread = ap length parts ∙ length-append x.bytes unread in
       let byte = some_byte p filled state x.bytes x.request outlived.0.spelled in
       let one : length x.bytes ≡ suc (length byte.1) = ap length byte.2 in
       let split = answered_split by world last x.log (log_of ex ++ log) (subst (λ l. IsAnswered by world l last) (append_assoc x.log (log_of ex) log) answered) in
-      let more = transcribed filled most (p.next state x.request) final split.0 last (at + length x.bytes) place ex rest left log written end outlived.1 ends
+      let more = transcribed filled rounds (p.next state x.request) final split.0 last (at + length x.bytes) place ex rest left log written end outlived.1 ends
       (place_behind at place x.bytes (bytes_of ex) place_is) (omega (arith, sized, fits)) (omega (arith, sized, lt, one)) split.2 quiet some in
-      goes_by most state world split.0 at ((x.bytes ++ bytes_of ex) ++ (rest ++ left)) x.bytes behind x.request x.log outlived.0.answer Open outlived.0.spelled parts outlived.0.worked split.1
+      goes_by rounds state world split.0 at ((x.bytes ++ bytes_of ex) ++ (rest ++ left)) x.bytes unread x.request x.log outlived.0.answer Open outlived.0.spelled parts outlived.0.worked split.1
       ∙ ap (going_on Open (p.prompts state x.bytes ++ outlived.0.answer)) more
       ∙ transcript_eq ((p.prompts state x.bytes ++ outlived.0.answer) ++ (text_of ex ++ written)) ((x.text ++ text_of ex) ++ written) end end
       (ap (λ l. l ++ (text_of ex ++ written)) (sym outlived.0.written) ∙ sym (append_assoc x.text (text_of ex) written)) refl

@@ -1,5 +1,5 @@
 -- A protocol as data, and the one way in which a text of bytes is cut into its requests.
--- Nothing here names a front, a command or an account: a front gives its `Protocol`.
+-- Nothing here names a command or an account: a service gives its `Protocol`.
 use Rattle.std.specs.Prelude.{◌≡◌, ℕ, List, [], ◌∷◌, ◌++◌, Option, None, Some}
 use Rattle.wire_io.specs.Work.{Work}
 
@@ -25,8 +25,8 @@ spelled_bytes (x ∷ xs) = x.0 ++ spelled_bytes xs
 module _ {State Request Call Answer : Type 0} (p : Protocol State Request Call Answer) where
   -- no proper prefix of the bytes is a whole request
   abbrev pub IsFirst : State → List ℕ → Type 0
-  IsFirst state bytes = (front : List ℕ) (b : ℕ) (more : List ℕ) → bytes ≡ front ++ b ∷ more
-      → p.whole state front ≡ None
+  IsFirst state bytes = (prefix : List ℕ) (b : ℕ) (more : List ℕ) → bytes ≡ prefix ++ b ∷ more
+      → p.whole state prefix ≡ None
 
   -- the bytes are a whole request, and no proper prefix of them is one
   pub record Spells (state : State) (bytes : List ℕ) (request : Request) : Type 0 where
@@ -36,7 +36,7 @@ module _ {State Request Call Answer : Type 0} (p : Protocol State Request Call A
   -- less than a request: the bytes spell no request, but they are a prefix of one
   pub record IsRest (state : State) (rest : List ℕ) : Type 0 where
     pub unspelled : (request : Request) → Spells state rest request → ⊥
-    pub front : (more : List ℕ) × (request : Request) × Spells state (rest ++ more) request
+    pub prefix : (more : List ℕ) × (request : Request) × Spells state (rest ++ more) request
 
   -- spellings one after another, from one state to another
   abbrev pub Spellings : State → List (Spelling Request) → State → Type 0
@@ -57,7 +57,7 @@ module _ {State Request Call Answer : Type 0} (p : Protocol State Request Call A
     pub only : (xs ys : List (Spelling Request)) (rest other : List ℕ) → IsCut state text xs rest
         → IsCut state text ys other → (ys ≡ xs) × (other ≡ rest)
 
-  -- what a front must provide: the empty text is no whole request, and each text can be continued
+  -- what a service must provide: the empty text is no whole request, and each text can be continued
   -- to a whole one
   pub record IsFilled : Type 0 where
     pub starts : (state : State) → p.whole state [] ≡ None

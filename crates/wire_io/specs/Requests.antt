@@ -1,5 +1,5 @@
--- What comes of one request: what a front takes of a feed for it, the calls that it makes, and what
--- is written.
+-- What comes of one request: what a service takes of a feed for it, the calls that it makes, and
+-- what is written.
 use Rattle.std.specs.Prelude.{◌≡◌, ◌⊎◌, ◌+◌, ℕ, zero, suc, List, [], ◌++◌, length, Option, Result, Ok, Err}
 use Rattle.std.specs.Io.KnownBytes.{Appends, IsAtEnd}
 use Rattle.wire_io.specs.declared.ends.After.{After}

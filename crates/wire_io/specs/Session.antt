@@ -29,9 +29,9 @@ module _ {Request Call Answer : Type 0} where
   text_of [] = []
   text_of (x ∷ xs) = x.text ++ text_of xs
 
--- `front` is a prefix of `whole`
-abbrev pub IsFront : List ℕ → List ℕ → Type 0
-IsFront front whole = (more : List ℕ) × (whole ≡ front ++ more)
+-- `prefix` is a prefix of `whole`
+abbrev pub IsPrefix : List ℕ → List ℕ → Type 0
+IsPrefix prefix whole = (more : List ℕ) × (whole ≡ prefix ++ more)
 
 module _ {State Request Call Answer : Type 0} (p : Protocol State Request Call Answer) where
   -- a request that is spelled and answered in full, and what the session does after it
@@ -79,7 +79,7 @@ module _ {State Request Call Answer : Type 0} (p : Protocol State Request Call A
     pub exchange : IsExchange state x after
     pub rest_is : rest ≡ x.bytes ++ unread
     pub log_is : log ≡ x.log
-    pub front : IsFront text x.text
+    pub prefix : IsPrefix text x.text
 
   -- the bytes `come` of a request had come, and a prefix of their prompts was written
   pub record CutInPrompts (state : State) (rest : List ℕ) (log : List (Call × Answer))
@@ -89,7 +89,7 @@ module _ {State Request Call Answer : Type 0} (p : Protocol State Request Call A
     pub part_or_all : IsPartOrAll state come
     pub rest_is : rest ≡ come ++ unread
     pub no_calls : log ≡ []
-    pub front : IsFront text (p.prompts state come)
+    pub prefix : IsPrefix text (p.prompts state come)
 
   -- the bytes `come` of a request had come, their prompts were written, and some first calls of the
   -- request were made, or none
@@ -146,7 +146,7 @@ module _ {State Request Call Answer : Type 0} (p : Protocol State Request Call A
       → List (Call × Answer) → List ℕ → SessionEnd → Type 0
   Session greeting start limit nothing_left taken log written end =
       IsWorked greeting start limit nothing_left taken log written end
-      ⊎ ((end ≡ WriteFault) × (taken ≡ []) × (log ≡ []) × IsFront written greeting)
+      ⊎ ((end ≡ WriteFault) × (taken ≡ []) × (log ≡ []) × IsPrefix written greeting)
 
   -- requests one after another; the session goes on after each, whatever the answers to its calls
   abbrev pub Outlives : State → List (Spelling Request) → State → Type 0
@@ -169,8 +169,8 @@ module _ {State Request Call Answer : Type 0} (p : Protocol State Request Call A
   RestEnds limit state at bytes Stopped = IsFinished limit state at bytes Stopping
   RestEnds limit state at bytes (Truncated offset) = (bytes ≢ []) × (at + length bytes < limit)
       × (offset ≡ at) × IsRest p state bytes
-  RestEnds limit state at bytes InputLimit = (front more : List ℕ) × (bytes ≡ front ++ more)
-      × (at + length front ≡ limit) × IsRest p state front
+  RestEnds limit state at bytes InputLimit = (prefix more : List ℕ) × (bytes ≡ prefix ++ more)
+      × (at + length prefix ≡ limit) × IsRest p state prefix
   RestEnds limit state at bytes ReadFault = ⊥
   RestEnds limit state at bytes WriteFault = ⊥
   RestEnds limit state at bytes NoMemory = ⊥

@@ -40,13 +40,13 @@ perform by world (say text after) = record { text = text; after = after; world =
 pub record Found (Request : Type 0) : Type 0 where
   pub own : List ℕ
   pub request : Request
-  pub behind : List ℕ
+  pub unread : List ℕ
 
 abbrev pub or_later : {Request : Type 0} → Option Request → List ℕ → List ℕ → Option (Found Request)
     → Option (Found Request)
-or_later (Some request) own behind later =
-    Some (record { own = own; request = request; behind = behind })
-or_later None own behind later = later
+or_later (Some request) own unread later =
+    Some (record { own = own; request = request; unread = unread })
+or_later None own unread later = later
 
 abbrev pub or_waits : {Request : Type 0} → Option (Found Request) → Transcript
     → (Found Request → Transcript) → Transcript
@@ -74,18 +74,18 @@ module _ {State Request Call Answer : Type 0} (p : Protocol State Request Call A
       or_later (p.whole state come) come (b ∷ bs) (first_request state (come ++ b ∷ []) bs)
 
   module _ {World : Type 0} (by : Answers World Call Answer) (limit : ℕ) where
-    -- the session from this offset on, of at most `most` requests
-    abbrev pub transcript_from : (most : ℕ) → State → World → (at : ℕ) → List ℕ → Transcript
+    -- the session from this offset on, of at most `rounds` requests
+    abbrev pub transcript_from : (rounds : ℕ) → State → World → (at : ℕ) → List ℕ → Transcript
     transcript_from zero state world at bytes = record {
       text = p.prompts state bytes;
       end = end_of_rest limit at bytes;
     }
-    transcript_from (suc most) state world at bytes =
+    transcript_from (suc rounds) state world at bytes =
         or_waits (first_request state [] bytes)
         (record { text = p.prompts state bytes; end = end_of_rest limit at bytes }) (λ found.
         let done = perform by world (p.work state found.request) in
-        going_on done.after (p.prompts state found.own ++ done.text) (transcript_from most
-        (p.next state found.request) done.world (at + length found.own) found.behind))
+        going_on done.after (p.prompts state found.own ++ done.text) (transcript_from rounds
+        (p.next state found.request) done.world (at + length found.own) found.unread))
 
     -- what the session of an input writes after its greeting, and how it ends; of the input only
     -- the first `limit` bytes are looked at

@@ -1,6 +1,6 @@
 ghost use Rattle.std.specs.Prelude.{◌≡◌, ◌≢◌, ◌≤◌, ◌<◌, ◌-◌, ◌+◌, ◌⊎◌, ◌↔◌, ℕ, List, [], ◌++◌, true, false, Option, take, drop, IfOk, IfErr, IsOk, OnOk, OnErr, IsErrOf, length, MatchResult};
 ghost use Rattle.std.specs.Io.KnownBytes.{Consumes, Keeps, IsAtEnd};
-ghost use Rattle.quota_units.specs.Causes.{HasCause, Rose};
+ghost use Rattle.quota_units.specs.Causes.{HasCause};
 ghost use Rattle.wire_io.specs.Lines.{HasNoEnd, IsLine};
 
 use super::ends::{FeedEnd, LineEnd};
@@ -11,7 +11,7 @@ use quota_units::NoMemory;
 
 /// How many of the first bytes belong to a line that has room for `room` more, and whether they end
 /// it.
-fn line_front(bytes: &[u8], room: usize) -> (usize, bool)
+fn line_prefix(bytes: &[u8], room: usize) -> (usize, bool)
     requires some { 0 < length bytes.now }
     requires room { 0 < room }
     ensures some { 0 < result.0 }
@@ -20,10 +20,10 @@ fn line_front(bytes: &[u8], room: usize) -> (usize, bool)
     ensures whole { result.1 ≡ true → IsLine (take result.0 bytes.now) }
     ensures begun { result.1 ≡ false → HasNoEnd (take result.0 bytes.now) }
 {
-    let front = &bytes[..room.min(bytes.len())];
-    match memchr(b'\n', front) {
+    let prefix = &bytes[..room.min(bytes.len())];
+    match memchr(b'\n', prefix) {
         Some(place) => (place + 1, true),
-        None => (front.len(), false),
+        None => (prefix.len(), false),
     }
 }
 
@@ -131,16 +131,13 @@ impl<'a, S: Source> Feed<'a, S> {
             → length (gained out.old.items out.new.items) ≤ length (waiting_of self.old)
             → (source_of self.new ≡ source_of self.old) × (taken_of self.new ≡ taken_of self.old) }
 
-        ensures later { S.faults (source_of self.old) ≤ S.faults (source_of self.new) }
-        ensures fault { IsErrOf result FeedEnd.Fault
-            → Rose (S.faults (source_of self.old)) (S.faults (source_of self.new)) }
-        ensures kept { result ≢ Err FeedEnd.Fault
-            → S.faults (source_of self.new) ≡ S.faults (source_of self.old) }
+        ensures cause { HasCause (IsErrOf result FeedEnd.Fault) (S.faults (source_of self.old))
+            (S.faults (source_of self.new)) }
     {
         let mut room = max;
         while room > 0 {
             self.ready()?;
-            let (count, is_whole) = line_front(self.waiting.as_slice(), room);
+            let (count, is_whole) = line_prefix(self.waiting.as_slice(), room);
             self.hand_out(out, count)?;
             if is_whole {
                 return Ok(LineEnd::Whole);
@@ -190,11 +187,8 @@ impl<'a, S: Source> Feed<'a, S> {
             → length (gained out.old.items out.new.items) ≤ length (waiting_of self.old)
             → (source_of self.new ≡ source_of self.old) × (taken_of self.new ≡ taken_of self.old) }
 
-        ensures later { S.faults (source_of self.old) ≤ S.faults (source_of self.new) }
-        ensures fault { IsErrOf result FeedEnd.Fault
-            → Rose (S.faults (source_of self.old)) (S.faults (source_of self.new)) }
-        ensures kept { result ≢ Err FeedEnd.Fault
-            → S.faults (source_of self.new) ≡ S.faults (source_of self.old) }
+        ensures cause { HasCause (IsErrOf result FeedEnd.Fault) (S.faults (source_of self.old))
+            (S.faults (source_of self.new)) }
     {
         let mut room = count;
         while room > 0 {
@@ -219,11 +213,8 @@ impl<'a, S: Source> Feed<'a, S> {
             → (source_of self.new ≡ source_of self.old) × (taken_of self.new ≡ taken_of self.old) }
         ensures dry { IfErr result (λ end.
             IsDry end (S.left (source_of self.new)) (taken_of self.new) (limit_of self.new)) }
-        ensures later { S.faults (source_of self.old) ≤ S.faults (source_of self.new) }
-        ensures fault { IsErrOf result FeedEnd.Fault
-            → Rose (S.faults (source_of self.old)) (S.faults (source_of self.new)) }
-        ensures kept { result ≢ Err FeedEnd.Fault
-            → S.faults (source_of self.new) ≡ S.faults (source_of self.old) }
+        ensures cause { HasCause (IsErrOf result FeedEnd.Fault) (S.faults (source_of self.old))
+            (S.faults (source_of self.new)) }
     {
         if self.waiting.len() > 0 {
             return Ok(());

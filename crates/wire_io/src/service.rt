@@ -1,6 +1,6 @@
 // The loop over requests. It is one for the sessions of all protocols.
 ghost use Rattle.std.specs.Prelude.{◌≡◌, ◌≢◌, ◌≤◌, ◌<◌, ◌⊎◌, ◌++◌, ℕ, List, [], OnOk, IfSome};
-ghost use Rattle.quota_units.specs.Causes.{Rose};
+ghost use Rattle.quota_units.specs.Causes.{HasCause, Rose};
 ghost use Rattle.wire_io.specs.Feeds.{source_of, source_name, waiting_of, taken_of, handed_of, limit_of};
 ghost use Rattle.wire_io.specs.Protocol.{Protocol, IsFilled};
 ghost use Rattle.wire_io.specs.Session.{EndsOneWay, EndsAsDecided};
@@ -68,14 +68,10 @@ pub trait Service<W> {
 
         // The end is `ReadFault` if a read failed, and `WriteFault` if a write failed. No other
         // failure is counted.
-        ensures read_fault { result ≡ Err SessionEnd.ReadFault
-            → Rose (S.faults (source_of feed.old)) (S.faults (source_of feed.new)) }
-        ensures read_kept { result ≢ Err SessionEnd.ReadFault
-            → S.faults (source_of feed.new) ≡ S.faults (source_of feed.old) }
-        ensures write_fault { result ≡ Err SessionEnd.WriteFault
-            → Rose (O.faults sink.old) (O.faults sink.new) }
-        ensures write_kept { result ≢ Err SessionEnd.WriteFault
-            → O.faults sink.new ≡ O.faults sink.old };
+        ensures read_cause { HasCause (result ≡ Err SessionEnd.ReadFault)
+            (S.faults (source_of feed.old)) (S.faults (source_of feed.new)) }
+        ensures write_cause { HasCause (result ≡ Err SessionEnd.WriteFault)
+            (O.faults sink.old) (O.faults sink.new) };
 
     /// No call leads from a world to itself.
     ghost logged_none: { (world : W) → logged world world [] };
@@ -126,13 +122,10 @@ fn serve_all<W, F: Service<W>, S: Source, O: Sink>(
     ensures fits { F.fits service.new world.new }
     ensures same_protocol { F.protocol service.new ≡ F.protocol service.old }
     ensures same_source { source_name feed.new ≡ source_name feed.old }
-    ensures read_fault { result ≡ SessionEnd.ReadFault
-        → Rose (S.faults (source_of feed.old)) (S.faults (source_of feed.new)) }
-    ensures read_kept { result ≢ SessionEnd.ReadFault
-        → S.faults (source_of feed.new) ≡ S.faults (source_of feed.old) }
-    ensures write_fault { result ≡ SessionEnd.WriteFault
-        → Rose (O.faults sink.old) (O.faults sink.new) }
-    ensures write_kept { result ≢ SessionEnd.WriteFault → O.faults sink.new ≡ O.faults sink.old }
+    ensures read_cause { HasCause (result ≡ SessionEnd.ReadFault)
+        (S.faults (source_of feed.old)) (S.faults (source_of feed.new)) }
+    ensures write_cause { HasCause (result ≡ SessionEnd.WriteFault)
+        (O.faults sink.old) (O.faults sink.new) }
 {
     loop {
         match service.serve(alloc, world, feed, sink) {
@@ -167,12 +160,10 @@ pub fn run_service<W, F: Service<W>, S: Source, O: Sink>(
 
     // The end is `ReadFault` if a read failed, and `WriteFault` if a write failed. No other failure
     // is counted.
-    ensures read_fault { result ≡ SessionEnd.ReadFault
-        → Rose (S.faults source.old) (S.faults source.new) }
-    ensures read_kept { result ≢ SessionEnd.ReadFault → S.faults source.new ≡ S.faults source.old }
-    ensures write_fault { result ≡ SessionEnd.WriteFault
-        → Rose (O.faults sink.old) (O.faults sink.new) }
-    ensures write_kept { result ≢ SessionEnd.WriteFault → O.faults sink.new ≡ O.faults sink.old }
+    ensures read_cause { HasCause (result ≡ SessionEnd.ReadFault)
+        (S.faults source.old) (S.faults source.new) }
+    ensures write_cause { HasCause (result ≡ SessionEnd.WriteFault)
+        (O.faults sink.old) (O.faults sink.new) }
 
     // The input decides an end. The session has that end unless something failed or memory ran out.
     ensures decided { IfSome (S.left source.old) (λ input.

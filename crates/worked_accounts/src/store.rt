@@ -137,13 +137,10 @@ impl Store {
         if !setup.is_sound() {
             return Err(Trouble::Unsound);
         }
-        match AccountState::open(alloc, keeper, setup, EPOCH) {
-            Ok(account) => Ok(account),
-            Err(fault) => {
-                let OpenFault { cause, keeper: _ } = fault;
-                Err(Trouble::Refused(cause))
-            }
-        }
+        AccountState::open(alloc, keeper, setup, EPOCH).map_err(|fault| {
+            let OpenFault { cause, keeper: _ } = fault;
+            Trouble::Refused(cause)
+        })
     }
 }
 

@@ -1,6 +1,6 @@
 use Rattle.std.proofs.Common.{◌≡◌, ◌∷◌, ◌<◌, length, Some, Err, ap, ◌∙◌, sym, arith}
 use Rattle.maildirsize.specs.declared.ledger_text.LedgerFault.TheVariants.{Torn}
-use Rattle.maildirsize.specs.Fronts.{skip_while, begins_with}
+use Rattle.maildirsize.specs.Prefixes.{skip_while, begins_with}
 use Rattle.maildirsize.specs.Lines.{is_line_feed, is_in_line}
 use Rattle.maildirsize.proofs.ReadingLemmas.{fault_without_line, fault_of_definition, fault_of_sums, reads_as, read_exactly, ended_begins}
 use Rattle.maildirsize.proofs.ledger_text.read_ledger.Goals as goal

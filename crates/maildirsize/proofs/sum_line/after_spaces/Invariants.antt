@@ -1,5 +1,5 @@
 use Rattle.std.proofs.Common.{◌≡◌, length}
-use Rattle.maildirsize.specs.Fronts.{skip_while}
+use Rattle.maildirsize.specs.Prefixes.{skip_while}
 use Rattle.maildirsize.specs.SumLine.{is_space}
 use Rattle.maildirsize.proofs.sum_line.after_spaces.Given as goal
 

@@ -1,7 +1,7 @@
 use Rattle.std.proofs.Common.{length, Some, sym, ap, ◌∙◌, arith}
 use Rattle.std.specs.List.{take_while}
 use Rattle.std.specs.Char.{is_ascii_digit}
-use Rattle.maildirsize.specs.Fronts.{begins_with}
+use Rattle.maildirsize.specs.Prefixes.{begins_with}
 use Rattle.maildirsize.specs.SumLine.{is_in_word}
 use Rattle.maildirsize.proofs.WordLemmas.{magnitude_cut_short, magnitude_refused, magnitude_taken, magnitude_empty, magnitude_long, length-take_while}
 use Rattle.maildirsize.proofs.sum_line.leading_magnitude.Goals as goal

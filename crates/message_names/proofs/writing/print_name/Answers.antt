@@ -1,6 +1,6 @@
 use Rattle.std.proofs.Common.{◌≡◌, ◌<◌, ◌^◌, true, rules, arith, subst, sym}
 use Rattle.std.proofs.lemmas.Grind.{common_steps}
-use Rattle.message_names.specs.Sizes.{cut}
+use Rattle.message_names.specs.Sizes.{cut_size}
 use Rattle.message_names.specs.Messages.{message_of}
 use Rattle.message_names.specs.Written.{is_base, written_name}
 use Rattle.message_names.proofs.ReadingLemmas.{written_back}
@@ -12,5 +12,5 @@ returns-clause-reads_back c =
     let right : is_base c.args.base.now ≡ true = search rules in
     let small : c.args.size < 2 ^ 64 = omega arith in
     λ length. subst
-    (λ name. message_of name length ≡ record { base = c.args.base.now; octets = cut c.args.size; flags = c.args.flags })
+    (λ name. message_of name length ≡ record { base = c.args.base.now; octets = cut_size c.args.size; flags = c.args.flags })
     (sym written) (written_back c.args.base.now c.args.size c.args.flags right small length)

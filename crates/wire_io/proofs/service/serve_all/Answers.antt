@@ -15,8 +15,8 @@ loop-end-preserved g c =
       same_protocol = s.same_protocol ∙ i.same_protocol;
       same_limit = s.same_limit ∙ i.same_limit;
       same_source = s.same_source ∙ i.same_source;
-      reads = s.read_kept (λ e. cc) ∙ i.reads;
-      writes = s.write_kept (λ e. cc) ∙ i.writes;
+      reads = s.read_cause.kept (λ e. cc) ∙ i.reads;
+      writes = s.write_cause.kept (λ e. cc) ∙ i.writes;
     }
 
 pub returns-in-Ok-Closing-clause-served : goal.returns-in-Ok-Closing-clause-served

@@ -2,7 +2,7 @@ ghost use Rattle.std.specs.Prelude.{◌≡◌, ◌==◌, ◌∷◌, min, false, 
 ghost use Rattle.std.specs.List.{take_while};
 ghost use Rattle.std.specs.Char.{is_ascii_digit};
 ghost use Rattle.std.specs.Str.Parse.{digits_value};
-ghost use Rattle.maildirsize.specs.Fronts.{skip_while, begins_with};
+ghost use Rattle.maildirsize.specs.Prefixes.{skip_while, begins_with};
 
 /// The number that leading digits stand for is cut here, above each limit and each integer of a
 /// ledger.

@@ -1,4 +1,4 @@
--- The longest front of a list whose elements all pass a test is `take_while` of std. `skip_while`
+-- The longest prefix of a list whose elements all pass a test is `take_while` of std. `skip_while`
 -- gives the elements after it.
 use Rattle.std.specs.Prelude.{ℕ, Bool, false, List, [], ◌∷◌, drop}
 use Rattle.std.specs.List.{prefix_len}

@@ -1,6 +1,6 @@
 use Rattle.std.proofs.Common.{arith}
 use Rattle.wire_io.proofs.LineLemmas.{HasNoEnd-searched, IsLine-searched}
-use Rattle.wire_io.proofs.feed.line_front.Goals as goal
+use Rattle.wire_io.proofs.feed.line_prefix.Goals as goal
 
 pub returns-in-Some-clause-whole : goal.returns-in-Some-clause-whole
 returns-in-Some-clause-whole c =

@@ -4,7 +4,7 @@ use Rattle.std.proofs.Math.Numerals.{one-add}
 use Rattle.std.specs.List.{prefix_len, take_while, list_all}
 use Rattle.std.proofs.lemmas.Bool.{cases_Bool, false≢true}
 use Rattle.std.proofs.lemmas.List.Sums.{take_while-cons}
-use Rattle.maildirsize.specs.Fronts.{skip_while, begins_with}
+use Rattle.maildirsize.specs.Prefixes.{skip_while, begins_with}
 
 drop_either : (b : Bool) (n x : ℕ) (xs : List ℕ) → drop (cond b (1 + n) 0) (x ∷ xs) ≡ cond b (drop n xs) (x ∷ xs)
 drop_either true n x xs = rw one-add
@@ -25,7 +25,7 @@ skip_yes p x xs h = skip_while-cons p x xs ∙ ap (λ b. cond b (skip_while p xs
 pub skip_no : (p : ℕ → Bool) (x : ℕ) (xs : List ℕ) → p x ≡ false → skip_while p (x ∷ xs) ≡ x ∷ xs
 skip_no p x xs h = skip_while-cons p x xs ∙ ap (λ b. cond b (skip_while p xs) (x ∷ xs)) h
 
--- a list is its front and what stands behind
+-- a list is its prefix and what stands behind
 pub take_while-append-skip_while : (p : ℕ → Bool) (xs : List ℕ) → take_while p xs ++ skip_while p xs ≡ xs
 take_while-append-skip_while p xs = take-append-drop (prefix_len p xs) xs
 
@@ -36,9 +36,9 @@ begins_with-skip_while p (x ∷ xs) = ⊎_elim
     (λ (h : p x ≡ false). ap (begins_with p) (skip_no p x xs h) ∙ h)
     (cases_Bool (p x))
 
-pub front_none : (p : ℕ → Bool) (xs : List ℕ) → begins_with p xs ≡ false → take_while p xs ≡ []
-front_none p [] h = refl
-front_none p (x ∷ xs) h = take_no p x xs h
+pub prefix_none : (p : ℕ → Bool) (xs : List ℕ) → begins_with p xs ≡ false → take_while p xs ≡ []
+prefix_none p [] h = refl
+prefix_none p (x ∷ xs) h = take_no p x xs h
 
 pub skip_none : (p : ℕ → Bool) (xs : List ℕ) → begins_with p xs ≡ false → skip_while p xs ≡ xs
 skip_none p [] h = refl
@@ -54,12 +54,12 @@ list_all-take_while p (x ∷ xs) = ⊎_elim
     (λ (h : p x ≡ false). ap (list_all p) (take_no p x xs h))
     (cases_Bool (p x))
 
--- where another test passes what p passes, its front goes on behind that of p
+-- where another test passes what p passes, its prefix goes on behind that of p
 module _ (p q : ℕ → Bool) (wider : (x : ℕ) → p x ≡ true → q x ≡ true) where
-  pub front_wider : (xs : List ℕ) → take_while q xs ≡ take_while p xs ++ take_while q (skip_while p xs)
-  front_wider [] = refl
-  front_wider (x ∷ xs) = ⊎_elim
-      (λ (h : p x ≡ true). take_yes q x xs (wider x h) ∙ ap (λ ys. x ∷ ys) (front_wider xs)
+  pub prefix_wider : (xs : List ℕ) → take_while q xs ≡ take_while p xs ++ take_while q (skip_while p xs)
+  prefix_wider [] = refl
+  prefix_wider (x ∷ xs) = ⊎_elim
+      (λ (h : p x ≡ true). take_yes q x xs (wider x h) ∙ ap (λ ys. x ∷ ys) (prefix_wider xs)
       ∙ sym (ap (λ ys. ys ++ take_while q (skip_while p (x ∷ xs))) (take_yes p x xs h)
       ∙ ap (λ ys. (x ∷ take_while p xs) ++ take_while q ys) (skip_yes p x xs h)))
       (λ (h : p x ≡ false). sym (ap (λ ys. ys ++ take_while q (skip_while p (x ∷ xs))) (take_no p x xs h)
@@ -73,8 +73,8 @@ module _ (p q : ℕ → Bool) (wider : (x : ℕ) → p x ≡ true → q x ≡ tr
       (λ (h : p x ≡ false). ap (skip_while q) (sym (skip_no p x xs h)))
       (cases_Bool (p x))
 
--- a front of q that p does not begin has an element that p refuses
-pub front_mixed : (p q : ℕ → Bool) (xs : List ℕ) → begins_with p xs ≡ false → begins_with q xs ≡ true
+-- a prefix of q that p does not begin has an element that p refuses
+pub prefix_mixed : (p q : ℕ → Bool) (xs : List ℕ) → begins_with p xs ≡ false → begins_with q xs ≡ true
     → list_all p (take_while q xs) ≡ false
-front_mixed p q [] h k = absurd (false≢true k)
-front_mixed p q (x ∷ xs) h k = ap (list_all p) (take_yes q x xs k) ∙ ap (λ b. b && list_all p (take_while q xs)) h
+prefix_mixed p q [] h k = absurd (false≢true k)
+prefix_mixed p q (x ∷ xs) h k = ap (list_all p) (take_yes q x xs k) ∙ ap (λ b. b && list_all p (take_while q xs)) h
