@@ -1,2 +1,3 @@
 pub mod Logging
 pub mod Lending
+pub mod Replying

@@ -7,7 +7,7 @@ use Rattle.account_core.specs.declared.calls.StepError.{StepError}
 use Rattle.account_core.specs.declared.calls.StepError.TheVariants.{NoMemory, Store, JournalFull}
 use Rattle.account_core.specs.History.{Answer, replied, store, journal_full}
 use Rattle.account_core.specs.Logs.{AreOthers, Logged, entries_of}
-use Rattle.desk.specs.Shares.{Share, mine, share_at, AreWithinJournals}
+use Rattle.desk.specs.Shares.{Share, mine, share_at, AreWithinJournals, HaveNoFailure}
 use Rattle.desk.specs.Asking.{Asks, DeskCall, MayAsk}
 
 -- the calls of a log on the account of this number, with their answers
@@ -35,6 +35,18 @@ log_of asked (Ok given) = (asked, replied given) ∷ []
 log_of asked (Err Store) = (asked, store) ∷ []
 log_of asked (Err (JournalFull most)) = (asked, journal_full) ∷ []
 log_of asked (Err NoMemory) = []
+
+-- each call got a reply of the account machine: no store failed, and no history was full
+abbrev pub AreReplied : {Asked : Type 0} → List (Asked × Answer) → Type 0
+AreReplied [] = Unit {0}
+AreReplied ((asked, replied given) ∷ log) = AreReplied log
+AreReplied ((asked, store) ∷ log) = ⊥
+AreReplied ((asked, journal_full) ∷ log) = ⊥
+
+-- These calls take the desk's shares from the first list to the second, and each got the machine's
+-- reply at its own place in the account's history.
+abbrev pub IsRepliedLog : (shares shares' : List Share) → List (DeskCall × Answer) → Type 0
+IsRepliedLog shares shares' log = IsLog shares shares' log × AreReplied log
 
 -- A call that leaves the shares of all other accounts as they are is a log.
 abbrev pub CallsAreLogs : Type 0
@@ -70,3 +82,10 @@ FullHistoriesStay =
     → part account log ≡ before ++ (call, journal_full) ∷ after
     → (entries_of (share_at shares account).caller after ≡ [])
     × (length (share_at shares' account).seen ≡ (share_at shares' account).origin.journal)
+
+-- If no entry that was seen by the end has fault, and no history is full then, each call of the log
+-- got the machine's reply.
+abbrev pub LogsWithoutFailureAreReplied : Type 0
+LogsWithoutFailureAreReplied =
+    (shares shares' : List Share) (log : List (DeskCall × Answer)) → IsLog shares shares' log
+    → HaveNoFailure shares' → IsRepliedLog shares shares' log

@@ -1,8 +1,9 @@
 -- A desk's share of an account: what it knows of the account's history.
-use Rattle.std.specs.Prelude.{◌≤◌, ℕ, List, [], length, slice_index_or, None}
+use Rattle.std.specs.Prelude.{◌≡◌, ◌≤◌, ◌<◌, ℕ, List, [], length, slice_index_or, None}
 use Rattle.std.specs.List.{All}
 use Rattle.account_core.specs.declared.calls.Entry.{Entry}
 use Rattle.account_core.specs.Histories.{Origin, calls_by}
+use Rattle.account_core.specs.Legality.{fault_count}
 
 pub record Share : Type 0 where
   -- where the account's history begins
@@ -34,3 +35,11 @@ IsWithinJournal share = length share.seen ≤ share.origin.journal
 
 abbrev pub AreWithinJournals : List Share → Type 0
 AreWithinJournals shares = All IsWithinJournal shares
+
+-- no entry that was seen has fault, and the history has room for one more
+pub record HasNoFailure (share : Share) : Type 0 where
+  pub no_fault : fault_count share.seen ≡ 0
+  pub room : length share.seen < share.origin.journal
+
+abbrev pub HaveNoFailure : List Share → Type 0
+HaveNoFailure shares = All HasNoFailure shares

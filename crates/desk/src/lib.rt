@@ -5,4 +5,7 @@ mod desk;
 mod laws;
 
 pub use desk::Desk;
-pub use laws::{calls_are_logs, full_histories_stay, logs_join, parts_are_own_entries};
+pub use laws::{
+    calls_are_logs, full_histories_stay, logs_join, logs_without_failure_are_replied,
+    parts_are_own_entries,
+};

@@ -2,7 +2,8 @@
 use Rattle.std.proofs.Common.{◌≡◌, ◌≢◌, ◌<◌, ◌≤◌, ◌+◌, ◌-◌, ◌^◌, ℕ, min, List, [], ◌∷◌, ◌++◌, length, map, set, get_or, get_or-set_same, length-set, refl, sym, ap, ◌∙◌, subst, append-nil, arith}
 use Rattle.std.specs.Prelude.{Option, Some, None, Result, Ok, Err, IfSome}
 use Rattle.std.specs.List.{All}
-use Rattle.std.proofs.lemmas.List.Elements.{All-map, All-set, All-weaker}
+use Rattle.std.proofs.lemmas.List.Elements.{All-map, All-set, All-weaker, AllZip-get_or}
+use Rattle.std.proofs.lemmas.Slice.Zip.{AllZip-long}
 use Rattle.std.proofs.lemmas.List.{get_or_default}
 use Rattle.keeper.specs.Calls.{Told, Due}
 use Rattle.account_core.specs.declared.calls.Call.{Call}
@@ -18,10 +19,10 @@ use Rattle.account_core.proofs.Logging.{logs_are_own, sits_next}
 use Rattle.account_ledger.specs.States.{State, IsInOrder, Opened}
 use Rattle.account_ledger.specs.Stores.{NoneFalls}
 use Rattle.account_ledger.specs.Performing.{UsesDue}
-use Rattle.desk.specs.Shares.{IsWithinJournal, AreWithinJournals}
+use Rattle.desk.specs.Shares.{HasNoFailure, IsWithinJournal, AreWithinJournals}
 use Rattle.desk.specs.Asking.{Asks}
 use Rattle.plain_desk.specs.Owning.{no_state, state_at, share_of, IsFresh, IsOwned, AreOwned}
-use Rattle.plain_desk.specs.Continuing.{Continues, NoneDueNoFault}
+use Rattle.plain_desk.specs.Continuing.{Continues, EachContinues, HasNoneDue, HasRoom, NoneDueNoFailures, NoneDueNoFault}
 
 -- accounts without entries are the owner's
 pub fresh_owned : (states : List State) → All IsFresh states → All IsInOrder states → All IsOwned states
@@ -117,3 +118,24 @@ none_due_no_fault opened now continues order fresh small = by opened.store.told 
         let first : now.first_faults ≡ opened.first_faults = continues.opened.first_faults in
         let excused : min (now.first_faults + fault_count now.history) (2 ^ 64 - 1) ≤ now.store.faults = order.legal.excused in
         omega arith
+
+no_failure : (s s' : State) → Continues s s' → IsOwned s' → HasNoneDue s → HasRoom s' → HasNoFailure (share_of s')
+no_failure s s' continues owned none room = record {
+  no_fault = by s.store.told none.is_told (none_due_no_fault s s' continues owned.order none.none_yet none.countable);
+  room = room;
+}
+  where
+    by : (told : Option Told) → told ≡ Some none.told → IfSome told (λ t. t.due ≡ 0 → fault_count s'.history ≡ 0) → fault_count s'.history ≡ 0
+    by None is fact = absurd cc
+    by (Some t) is fact =
+        let same : t ≡ none.told = cc in
+        fact (ap (λ (u : Told). u.due) same ∙ none.none_due)
+
+pub none_due_no_failures : NoneDueNoFailures
+none_due_no_failures states states' continues owned none room =
+    All-map HasNoFailure share_of states' (each states states' continues owned.each none room)
+  where
+    each : (xs ys : List State) → EachContinues xs ys → All IsOwned ys → All HasNoneDue xs → All HasRoom ys → All (λ (s : State). HasNoFailure (share_of s)) ys
+    each xs ys all own due free k d lt =
+        no_failure (get_or xs k d) (get_or ys k d) (AllZip-get_or Continues xs ys k d d all (subst (λ (n : ℕ). k < n) (AllZip-long Continues xs ys all) lt))
+        (own k d lt) (due k d (subst (λ (n : ℕ). k < n) (AllZip-long Continues xs ys all) lt)) (free k d lt)

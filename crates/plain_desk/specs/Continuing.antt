@@ -1,11 +1,13 @@
 -- What the owner's calls keep of an account besides its history.
-use Rattle.std.specs.Prelude.{◌≡◌, ◌≤◌, ◌<◌, ◌+◌, ◌-◌, ◌^◌, ℕ, List, Option, Some, None, IfSome}
-use Rattle.std.specs.List.{AllZip}
+use Rattle.std.specs.Prelude.{◌≡◌, ◌≤◌, ◌<◌, ◌+◌, ◌-◌, ◌^◌, ℕ, List, length, map, Option, Some, None, IfSome}
+use Rattle.std.specs.List.{All, AllZip}
 use Rattle.std.proofs.Common.{refl, ◌∙◌, arith}
 use Rattle.keeper.specs.Calls.{Told, Due}
 use Rattle.account_core.specs.Legality.{fault_count}
 use Rattle.account_ledger.specs.States.{State, IsInOrder, Opened}
 use Rattle.account_ledger.specs.Stores.{NoneFalls}
+use Rattle.desk.specs.Shares.{HaveNoFailure}
+use Rattle.plain_desk.specs.Owning.{AreOwned, share_of}
 
 -- The second is a later state of the same account. What the account was opened with stays, neither
 -- count of faults falls, and the faults and the failures that are due, added up, never grow.
@@ -68,3 +70,23 @@ NoneDueNoFault =
     (opened now : State) → Continues opened now → IsInOrder now
     → opened.store.faults ≡ opened.first_faults → opened.first_faults < 2 ^ 64 - 1
     → IfSome opened.store.told (λ told. told.due ≡ 0 → fault_count now.history ≡ 0)
+
+-- the account's keeper tells its files, no call of it but an append has failed since the opening,
+-- and no failure is due
+pub record HasNoneDue (s : State) : Type 0 where
+  pub told : Told
+  pub is_told : s.store.told ≡ Some told
+  pub none_due : told.due ≡ 0
+  pub none_yet : s.store.faults ≡ s.first_faults
+  pub countable : s.first_faults < 2 ^ 64 - 1
+
+-- the history has room for one more entry
+abbrev pub HasRoom : State → Type 0
+HasRoom s = length s.history < s.origin.journal
+
+-- If no failure of any keeper was due, no account has a failure after the owner's calls, as long as
+-- its journal lasts.
+abbrev pub NoneDueNoFailures : Type 0
+NoneDueNoFailures =
+    (states states' : List State) → EachContinues states states' → AreOwned states'
+    → All HasNoneDue states → All HasRoom states' → HaveNoFailure (map share_of states')

@@ -4,5 +4,5 @@
 mod laws;
 mod plain;
 
-pub use laws::no_failure_due_no_fault;
+pub use laws::{no_failure_due_no_fault, no_failures_due_no_failures};
 pub use plain::PlainDesk;
