@@ -1,15 +1,17 @@
--- Readings: what is read at the front of a text, and how readers run one after another.
+-- Readings: what a text begins with, and how readers run one after another.
 use Rattle.std.specs.Prelude.{◌≡◌, ℕ, Bool, ◌==◌, if◌then◌else◌, List, [], ◌∷◌, length, Result, Ok, Err}
 use Rattle.imap_grammar.specs.declared.readers.Stop.{Stop}
-use Rattle.imap_grammar.specs.declared.readers.Stop.TheVariants.{Wrong, Short, Memory}
+use Rattle.imap_grammar.specs.declared.readers.Stop.TheVariants.{Wrong, Short, Marked, Memory}
 
 pub data Reading (A : Type 0) : Type 0 where
-  -- this value is at the front of the text, and then comes the rest
+  -- the text begins with this value, and then comes the rest
   got : (value : A) (rest : List ℕ) → Reading A
   -- the text goes wrong at the first byte of this rest
   wrong : (rest : List ℕ) → Reading A
   -- the text ends too early
   short : Reading A
+  -- the text ends with the marker of a literal: this many octets come next
+  marked : (count : ℕ) → Reading A
 
 abbrev pub Reader : Type 0 → Type 0
 Reader A = List ℕ → Reading A
@@ -18,6 +20,7 @@ abbrev pub and_then : {A B : Type 0} → Reading A → (A → Reader B) → Read
 and_then (got value rest) next = next value rest
 and_then (wrong rest) next = wrong rest
 and_then short next = short
+and_then (marked count) next = marked count
 
 -- one reader, and then the reader that its value chooses
 infixl 10 ◌>>=◌
@@ -41,6 +44,7 @@ abbrev pub with_first : ℕ → Reading (List ℕ) → Reading (List ℕ)
 with_first b (got bs rest) = got (b ∷ bs) rest
 with_first b (wrong rest) = wrong rest
 with_first b short = short
+with_first b (marked count) = marked count
 
 -- bytes that pass a test, up to the first that does not
 abbrev pub many : (ℕ → Bool) → Reader (List ℕ)
@@ -60,6 +64,7 @@ line_end (b ∷ bs) = if b == 10 then got tt bs else if b == 13 then byte 10 bs 
 abbrev pub Stops : {A : Type 0} → Stop → Reading A → Type 0
 Stops (Wrong left) reading = (rest : List ℕ) × (reading ≡ wrong rest) × (length rest ≡ left)
 Stops Short reading = reading ≡ short
+Stops (Marked count) reading = reading ≡ marked count
 Stops Memory reading = Unit {0}
 
 abbrev pub Gives : {X A : Type 0} → (X → A) → (X → List ℕ) → Result X Stop → Reading A → Type 0

@@ -2,8 +2,9 @@
 ghost use Rattle.std.specs.Prelude.{◌≡◌, ◌<◌, ◌↔◌, length, false, IfOk, IfErr};
 ghost use Rattle.imap_grammar.specs.Bytes.{is_quotable, is_escaped};
 ghost use Rattle.imap_grammar.specs.Reading.{Gives};
-ghost use Rattle.imap_grammar.specs.Astrings.{plain, inside, astring};
+ghost use Rattle.imap_grammar.specs.Astrings.{plain, inside, unquoted, astring};
 
+use crate::literal::literal;
 use crate::readers::{Stop, astring_bytes, is_astring_byte};
 use quota_units::{Name, NameError};
 use std::alloc::Global;
@@ -53,7 +54,7 @@ pub fn is_escaped(byte: u8) -> bool
 }
 
 /// Whether a byte may occur between quotes: every byte but NUL, LF and CR.
-fn is_quotable(byte: u8) -> bool
+pub fn is_quotable(byte: u8) -> bool
     ensures { result ≡ is_quotable byte }
 {
     !(byte == 0 || (byte == b'\n' || byte == b'\r'))
@@ -100,14 +101,24 @@ fn inside(alloc: Global, text: &[u8]) -> Result<(Astring, &[u8]), Stop>
     Err(Stop::Short)
 }
 
-/// A name, with or without quotes.
+/// A name without quotes: a literal, or plain.
+fn unquoted(text: &[u8]) -> Result<(&[u8], &[u8]), Stop>
+    ensures { Gives (λ x. x.0.now) (λ x. x.1.now) result (unquoted text.now) }
+{
+    if let [b'{', rest @ ..] = text {
+        return literal(rest);
+    }
+    plain(text)
+}
+
+/// A name: between quotes, as a literal, or plain.
 pub fn name(alloc: Global, text: &[u8]) -> Result<(Astring, &[u8]), Stop>
     ensures { Gives (λ x. x.0) (λ x. x.1.now) result (astring text.now) }
 {
     if let [b'"', rest @ ..] = text {
         return inside(alloc, rest);
     }
-    let (bytes, rest) = plain(text)?;
+    let (bytes, rest) = unquoted(text)?;
     let bytes = bytes.to_vec(alloc)?;
     Ok((Astring { bytes }, rest))
 }

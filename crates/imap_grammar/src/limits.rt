@@ -1,7 +1,8 @@
 // The limits that SETQUOTA asks for.
 ghost use Rattle.std.specs.Prelude.{◌≡◌, ◌++◌, [], ◌∷◌, OnOk, OnErr};
 ghost use Rattle.imap_grammar.specs.Reading.{Gives};
-ghost use Rattle.imap_grammar.specs.LimitLists.{asked_limit, next_limit, some_limits, limits_closed};
+ghost use Rattle.imap_grammar.specs.Lists.{next_item, some_items};
+ghost use Rattle.imap_grammar.specs.LimitLists.{asked_limit, limits_closed};
 
 use crate::astring::plain;
 use crate::number::number;
@@ -71,7 +72,7 @@ fn asked_limit(text: &[u8]) -> Result<(AskedLimit, &[u8]), Stop>
 
 /// A space and a limit, or the closing parenthesis.
 fn next_limit(text: &[u8]) -> Result<(Option<AskedLimit>, &[u8]), Stop>
-    ensures { Gives (λ x. x.0) (λ x. x.1.now) result (next_limit text.now) }
+    ensures { Gives (λ x. x.0) (λ x. x.1.now) result (next_item asked_limit text.now) }
 {
     match text {
         [] => Err(Stop::Short),
@@ -86,7 +87,7 @@ fn next_limit(text: &[u8]) -> Result<(Option<AskedLimit>, &[u8]), Stop>
 
 /// One limit or more, separated by spaces, and the closing parenthesis.
 fn some_limits(alloc: Global, text: &[u8]) -> Result<(AskedLimits, &[u8]), Stop>
-    ensures { Gives (λ x. x.0) (λ x. x.1.now) result (some_limits text.now) }
+    ensures { Gives (λ x. x.0) (λ x. x.1.now) result (some_items asked_limit text.now) }
 {
     let mut limits = AskedLimits::new(alloc);
     let (first, mut rest) = asked_limit(text)?;

@@ -1,12 +1,14 @@
 // A command's parts, read one after another.
-ghost use Rattle.std.specs.Prelude.{◌≡◌};
+ghost use Rattle.std.specs.Prelude.{◌≡◌, ◌<◌, IfOk, length};
 ghost use Rattle.imap_grammar.specs.Reading.{Gives, FailsAt};
-ghost use Rattle.imap_grammar.specs.Commands.{tag_at, checked_tag, word_of, name_alone, name_and_limits, arguments_after, arguments_of, command_at};
+ghost use Rattle.imap_grammar.specs.Commands.{tag_at, checked_tag, word_of, ended, name_alone, user_and_password, name_and_limits, name_and_items, name_and_message, arguments_after, arguments_of, command_at};
 
+use crate::append::flagged_marker;
 use crate::astring::{Astring, name};
 use crate::command::Command;
 use crate::limits::limits_closed;
 use crate::readers::{Stop, byte, letters, line_end, tag_bytes};
+use crate::status::status_items;
 use crate::word::{Word, is_allowed, word_of};
 use std::alloc::Global;
 
@@ -54,6 +56,18 @@ fn name_alone(alloc: Global, text: &[u8]) -> Result<(Astring, &[u8]), Stop>
     Ok((name, rest))
 }
 
+/// A space, a name, a space, a password and the line's end.
+fn user_and_password(alloc: Global, text: &[u8]) -> Result<(Command, &[u8]), Stop>
+    ensures { Gives (λ x. x.0) (λ x. x.1.now) result (user_and_password text.now) }
+{
+    let ((), rest) = byte(text, b' ')?;
+    let (user, rest) = name(alloc, rest)?;
+    let ((), rest) = byte(rest, b' ')?;
+    let (password, rest) = name(alloc, rest)?;
+    let ((), rest) = line_end(rest)?;
+    Ok((Command::Login { user, password }, rest))
+}
+
 /// A space, a name, a space, limits in parentheses and the line's end.
 fn name_and_limits(alloc: Global, text: &[u8]) -> Result<(Command, &[u8]), Stop>
     ensures { Gives (λ x. x.0) (λ x. x.1.now) result (name_and_limits text.now) }
@@ -67,11 +81,52 @@ fn name_and_limits(alloc: Global, text: &[u8]) -> Result<(Command, &[u8]), Stop>
     Ok((Command::SetQuota { root, limits }, rest))
 }
 
-/// What follows a command's word.
+/// A space, a name, a space, items in parentheses and the line's end.
+fn name_and_items(alloc: Global, text: &[u8]) -> Result<(Command, &[u8]), Stop>
+    ensures { Gives (λ x. x.0) (λ x. x.1.now) result (name_and_items text.now) }
+{
+    let ((), rest) = byte(text, b' ')?;
+    let (mailbox, rest) = name(alloc, rest)?;
+    let ((), rest) = byte(rest, b' ')?;
+    let ((), rest) = byte(rest, b'(')?;
+    let (items, rest) = status_items(alloc, rest)?;
+    let ((), rest) = line_end(rest)?;
+    Ok((Command::Status { mailbox, items }, rest))
+}
+
+/// A space, a name, a space, and what comes before a message, up to the message's marker.
+fn name_and_message(alloc: Global, text: &[u8]) -> Result<(Command, &[u8]), Stop>
+    ensures { Gives (λ x. x.0) (λ x. x.1.now) result (name_and_message text.now) }
+{
+    let ((), rest) = byte(text, b' ')?;
+    let (mailbox, rest) = name(alloc, rest)?;
+    let ((), rest) = byte(rest, b' ')?;
+    let ((flags, size), rest) = flagged_marker(rest)?;
+    let append = Command::Append {
+        mailbox,
+        flags,
+        size,
+    };
+    Ok((append, rest))
+}
+
+/// The line's end, after which this command is whole.
+fn ended(command: Command, text: &[u8]) -> Result<(Command, &[u8]), Stop>
+    ensures { Gives (λ x. x.0) (λ x. x.1.now) result (ended command text.now) }
+{
+    let ((), rest) = line_end(text)?;
+    Ok((command, rest))
+}
+
+/// What follows a command's word: all of it, or up to the message's marker.
 fn arguments_after(alloc: Global, word: Word, text: &[u8]) -> Result<(Command, &[u8]), Stop>
     ensures { Gives (λ x. x.0) (λ x. x.1.now) result (arguments_after word text.now) }
 {
     match word {
+        Word::Capability => ended(Command::Capability, text),
+        Word::Noop => ended(Command::Noop, text),
+        Word::Logout => ended(Command::Logout, text),
+        Word::Login => user_and_password(alloc, text),
         Word::GetQuota => {
             let (root, rest) = name_alone(alloc, text)?;
             Ok((Command::GetQuota { root }, rest))
@@ -81,10 +136,8 @@ fn arguments_after(alloc: Global, word: Word, text: &[u8]) -> Result<(Command, &
             Ok((Command::GetQuotaRoot { mailbox }, rest))
         }
         Word::SetQuota => name_and_limits(alloc, text),
-        Word::Logout => {
-            let ((), rest) = line_end(text)?;
-            Ok((Command::Logout, rest))
-        }
+        Word::Status => name_and_items(alloc, text),
+        Word::Append => name_and_message(alloc, text),
     }
 }
 
@@ -104,10 +157,11 @@ fn arguments<'a>(
     }
 }
 
-/// A tag, a command that is allowed, and the rest.
+/// A tag, a command that is allowed, and the rest. APPEND is read up to its message's marker.
 pub fn tagged(alloc: Global, text: &[u8], login: bool) -> Result<(&[u8], Command, &[u8]), Stop>
-    ensures { Gives (λ x. record { tag = x.0.now; command = x.1 }) (λ x. x.2.now) result
+    ensures is { Gives (λ x. record { tag = x.0.now; command = x.1 }) (λ x. x.2.now) result
         (command_at login text.now) }
+    ensures tag { IfOk result (λ x. length x.0.now < length text.now) }
 {
     let (tag, rest) = tag(text)?;
     let ((), rest) = byte(rest, b' ')?;

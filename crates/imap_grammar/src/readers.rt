@@ -1,5 +1,5 @@
-// Readers of the parts of a command. Each reads the part that its comment names from the front of a
-// text, and gives that part and the rest of the text.
+// Readers of the parts of a command. Each reads the part that its comment names, with which a text
+// begins, and gives that part and the rest of the text.
 ghost use Rattle.std.specs.Prelude.{◌≡◌};
 ghost use Rattle.imap_grammar.specs.Reading.{Gives, byte, many, line_end};
 ghost use Rattle.imap_grammar.specs.Bytes.{is_tag_byte, is_astring_byte, is_letter};
@@ -14,6 +14,8 @@ pub enum Stop {
     Wrong { left: usize },
     /// The text ends too early.
     Short,
+    /// The text ends with the marker of a literal of `count` octets.
+    Marked { count: usize },
     /// Memory ran out.
     Memory,
 }

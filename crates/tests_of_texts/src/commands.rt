@@ -1,41 +1,85 @@
-// Lines that are commands, and lines that are not.
-use imap_grammar::{Command, CommandFault, push_astring, read_command};
+// Texts that are commands, and texts that are not.
+use imap_grammar::{Command, CommandFault, Progress, push_astring, read_command, read_progress};
 use std::alloc::Global;
 use std::test::Fail;
 
-/// What a text reads as, in words.
-fn shown(alloc: Global, text: &[u8], login: bool) -> Result<String, Fail> {
-    let read = read_command(alloc, text, login);
-    let line = match &read {
-        Ok(Command::GetQuota { root }) => format!(in alloc; "GETQUOTA {:?}", root.as_slice())?,
-        Ok(Command::GetQuotaRoot { mailbox }) => {
+/// A command, in words.
+fn command_shown(alloc: Global, command: &Command) -> Result<String, Fail> {
+    let line = match command {
+        Command::Capability => "CAPABILITY".to_string(alloc)?,
+        Command::Noop => "NOOP".to_string(alloc)?,
+        Command::Logout => "LOGOUT".to_string(alloc)?,
+        Command::Login { user, password } => {
+            format!(in alloc; "LOGIN {:?} {:?}", user.as_slice(), password.as_slice())?
+        }
+        Command::GetQuota { root } => format!(in alloc; "GETQUOTA {:?}", root.as_slice())?,
+        Command::GetQuotaRoot { mailbox } => {
             format!(in alloc; "GETQUOTAROOT {:?}", mailbox.as_slice())?
         }
-        Ok(Command::SetQuota { root, limits }) => {
+        Command::SetQuota { root, limits } => {
             let mut line = format!(in alloc; "SETQUOTA {:?}", root.as_slice())?;
             for limit in limits.as_slice() {
                 line.push_str(&format!(in alloc; " {:?} {}", limit.resource, limit.limit)?)?;
             }
             line
         }
-        Ok(Command::Logout) => "LOGOUT".to_string(alloc)?,
-        Err(CommandFault::NotBuilt) => "not built".to_string(alloc)?,
-        Err(CommandFault::NoMemory) => "no memory".to_string(alloc)?,
+        Command::Status { mailbox, items } => {
+            let mut line = format!(in alloc; "STATUS {:?}", mailbox.as_slice())?;
+            for item in items.as_slice() {
+                line.push_str(&format!(in alloc; " {item:?}")?)?;
+            }
+            line
+        }
+        Command::Append {
+            mailbox,
+            flags,
+            size,
+        } => {
+            let mut line = format!(in alloc; "APPEND {:?} {size} ", mailbox.as_slice())?;
+            for letter in b"DFPRST" {
+                if flags.has(*letter) {
+                    line.push(char::from(*letter))?;
+                }
+            }
+            line
+        }
     };
     Ok(line)
 }
 
+/// What a text reads as, in words.
+fn shown(alloc: Global, text: &[u8], login: bool) -> Result<String, Fail> {
+    match read_command(alloc, text, login) {
+        Ok(command) => command_shown(alloc, &command),
+        Err(CommandFault::Syntax { at }) => Ok(format!(in alloc; "syntax {at}")?),
+        Err(fault) => Ok(format!(in alloc; "{fault:?}")?),
+    }
+}
+
+/// What a text has come to, in words.
+fn progress_shown(alloc: Global, text: &[u8], login: bool) -> Result<String, Fail> {
+    match read_progress(alloc, text, login) {
+        Ok(Progress::Whole { command, tag }) => {
+            let command = command_shown(alloc, &command)?;
+            Ok(format!(in alloc; "{tag} {command}")?)
+        }
+        Ok(progress) => Ok(format!(in alloc; "{progress:?}")?),
+        Err(fault) => Ok(format!(in alloc; "{fault:?}")?),
+    }
+}
+
 #[test]
 fn commands_are_read(rt: HostRuntime) -> Result<(), Fail> {
-    let table: [(&[u8], bool, &str); 24] = [
+    let table: [(&[u8], bool, &str); 36] = [
         (b"a1 GETQUOTA \"\"\r\n", true, "GETQUOTA []"),
         (b"a1 getQuota \"\"\n", true, "GETQUOTA []"),
-        (b"a1 GETQUOTA \"\"\r\n", false, "not built"),
-        (b"a1 GETQUOTA \"\" \r\n", true, "not built"),
-        (b"a1 GETQUOTA  \"\"\r\n", true, "not built"),
-        (b"a1 GETQUOTA\r\n", true, "not built"),
-        (b"a1 GETQUOTA {0}\r\n", true, "not built"),
-        (b"a1 GETQUOTAS x\r\n", true, "not built"),
+        (b"a1 GETQUOTA \"\"\r\n", false, "NotAuthenticated"),
+        (b"a1 GETQUOTA \"\" \r\n", true, "syntax 14"),
+        (b"a1 GETQUOTA  \"\"\r\n", true, "syntax 12"),
+        (b"a1 GETQUOTA\r\n", true, "syntax 11"),
+        (b"a1 GETQUOTA {0}\r\n", true, "syntax 17"),
+        (b"a1 GETQUOTA {0}\r\n\r\n", true, "GETQUOTA []"),
+        (b"a1 GETQUOTAS x\r\n", true, "Unknown"),
         (
             b"a1 GETQUOTAROOT INBOX\r\n",
             true,
@@ -46,20 +90,39 @@ fn commands_are_read(rt: HostRuntime) -> Result<(), Fail> {
             true,
             "GETQUOTAROOT [97, 32, 98]",
         ),
-        (b"a1 GETQUOTAROOT INBOX\r\n", false, "not built"),
-        (b"a1 GETQUOTAROOT INBOX x\r\n", true, "not built"),
+        (b"a1 GETQUOTAROOT INBOX\r\n", false, "NotAuthenticated"),
+        (b"a1 GETQUOTAROOT INBOX x\r\n", true, "syntax 21"),
         (b"a1 SETQUOTA x ()\n", true, "SETQUOTA [120]"),
-        (b"a1 SETQUOTA x ()\n", false, "not built"),
+        (b"a1 SETQUOTA x ()\n", false, "NotAuthenticated"),
         (b"a2 LOGOUT\r\n", true, "LOGOUT"),
         (b"a2 LOGOUT\r\n", false, "LOGOUT"),
         (b"~]}/ logout\n", true, "LOGOUT"),
-        (b"a+ LOGOUT\r\n", true, "not built"),
-        (b"a2  LOGOUT\r\n", true, "not built"),
-        (b"a2 LOGOUT\r", true, "not built"),
-        (b"a2 LOGOUT\r\n\n", true, "not built"),
-        (b" LOGOUT\r\n", true, "not built"),
-        (b"\r\n", true, "not built"),
-        (b"", true, "not built"),
+        (b"a+ LOGOUT\r\n", true, "InvalidTag"),
+        (b"a2  LOGOUT\r\n", true, "Unknown"),
+        (b"a2 LOGOUT\r\n\n", true, "syntax 11"),
+        (b" LOGOUT\r\n", true, "InvalidTag"),
+        (b"\r\n", true, "InvalidTag"),
+        (b"", true, "syntax 0"),
+        (b"a", true, "syntax 1"),
+        (b"a NOO", false, "syntax 5"),
+        (b"a2 LOGOUT(\r\n", false, "Unknown"),
+        (b"a NOOP\n", false, "NOOP"),
+        (b"a Capability\r\n", true, "CAPABILITY"),
+        (b"a login x \"y\"\n", false, "LOGIN [120] [121]"),
+        (b"a login {1}\n\n {0}\n\n", false, "LOGIN [10] []"),
+        (b"a login x y\n", true, "AlreadyAuthenticated"),
+        (
+            b"a status x (Size UNSEEN foo Deleted-storage)\n",
+            true,
+            "STATUS [120] Some(Size) Some(Unseen) None Some(DeletedStorage)",
+        ),
+        (b"a status x ()\n", true, "syntax 12"),
+        (
+            b"a append x (\\SEEN \\Draft z) \"d\" {7}\n\n",
+            true,
+            "APPEND [120] 7 DS",
+        ),
+        (b"a append x (\\) {7}\n", true, "syntax 13"),
     ];
     for (text, login, wanted) in table {
         let read = shown(rt.alloc(), text, login)?;
@@ -69,16 +132,56 @@ fn commands_are_read(rt: HostRuntime) -> Result<(), Fail> {
 }
 
 #[test]
+fn a_text_says_what_comes_next(rt: HostRuntime) -> Result<(), Fail> {
+    let table: [(&[u8], bool, &str); 14] = [
+        (b"a1 NOOP\r\n", false, "2 NOOP"),
+        (b"a1 LOGIN {3}\r\n", false, "Literal { count: 3 }"),
+        (b"a1 LOGIN {3}\r\n", true, "AlreadyAuthenticated"),
+        (b"a1 LOGIN {3}\r\nab", false, "More { at: 16 }"),
+        (b"a1 LOGIN x", false, "More { at: 10 }"),
+        (b"a1 LOGIN (x", false, "More { at: 9 }"),
+        (b"a1 LOGIN (x\n", false, "Syntax { at: 9 }"),
+        (b"a1 GETQUOTA {16365}\n", true, "LiteralTooLarge"),
+        (b"a1 GETQUOTA {16364}\n", true, "Literal { count: 16364 }"),
+        (b"a1 APPEND INBOX {3}\r\n", true, "Message { count: 3 }"),
+        (b"a1 APPEND inbox {3}\r\n", false, "NotAuthenticated"),
+        (b"a1 APPEND INBOX {3}\r\nx\r\n", true, "Syntax { at: 21 }"),
+        (b"a1 APPEND INBOX {3}\r\n\rx\r\n", true, "Syntax { at: 22 }"),
+        (b"a1 APPEND INBOX {67108865}\r\n", true, "MessageTooLarge"),
+    ];
+    for (text, login, wanted) in table {
+        let progress = progress_shown(rt.alloc(), text, login)?;
+        assert_eq!(rt; progress.as_str(), wanted, "{text:?}");
+    }
+    Ok(())
+}
+
+#[test]
+fn a_text_has_at_most_16384_bytes(rt: HostRuntime) -> Result<(), Fail> {
+    // The bytes of the name: with 12 others they are 16383, 16384 and 16385.
+    for (count, fits) in [(16371, true), (16372, true), (16373, false)] {
+        let mut text = b"a GETQUOTA ".to_vec(rt.alloc())?;
+        for _ in 0..count {
+            text.push(b'x')?;
+        }
+        text.push(b'\n')?;
+        let read = read_command(rt.alloc(), &text, true);
+        assert_eq!(rt; read.is_ok(), fits, "a name of {count} bytes");
+    }
+    Ok(())
+}
+
+#[test]
 fn names_are_plain_or_quoted(rt: HostRuntime) -> Result<(), Fail> {
     let table: [(&[u8], &str); 19] = [
         (b"x", "GETQUOTA [120]"),
         (b"a+b]", "GETQUOTA [97, 43, 98, 93]"),
-        (b"a(b", "not built"),
-        (b"a\"b\"", "not built"),
-        (b"a\\b", "not built"),
-        (b"50%", "not built"),
-        (b"a\x7f", "not built"),
-        (b"\xc3\xa4", "not built"),
+        (b"a(b", "syntax 12"),
+        (b"a\"b\"", "syntax 12"),
+        (b"a\\b", "syntax 12"),
+        (b"50%", "syntax 13"),
+        (b"a\x7f", "syntax 12"),
+        (b"\xc3\xa4", "syntax 11"),
         (b"\"\xc3\xa4\"", "GETQUOTA [195, 164]"),
         (
             b"\"(){%*+\x01\x7f\"",
@@ -86,13 +189,13 @@ fn names_are_plain_or_quoted(rt: HostRuntime) -> Result<(), Fail> {
         ),
         (b"\"a\\\"b\"", "GETQUOTA [97, 34, 98]"),
         (b"\"a\\\\b\"", "GETQUOTA [97, 92, 98]"),
-        (b"\"a\\b\"", "not built"),
-        (b"\"a\"b\"", "not built"),
-        (b"\"a\\\"", "not built"),
-        (b"\"a", "not built"),
-        (b"\"a\0b\"", "not built"),
-        (b"\"a\rb\"", "not built"),
-        (b"\"a\nb\"", "not built"),
+        (b"\"a\\b\"", "syntax 14"),
+        (b"\"a\"b\"", "syntax 14"),
+        (b"\"a\\\"", "syntax 15"),
+        (b"\"a", "syntax 13"),
+        (b"\"a\0b\"", "syntax 13"),
+        (b"\"a\rb\"", "syntax 13"),
+        (b"\"a\nb\"", "syntax 13"),
     ];
     for (name, wanted) in table {
         let mut line = b"a GETQUOTA ".to_vec(rt.alloc())?;
@@ -105,7 +208,7 @@ fn names_are_plain_or_quoted(rt: HostRuntime) -> Result<(), Fail> {
 }
 
 #[test]
-fn limits_stand_in_parentheses(rt: HostRuntime) -> Result<(), Fail> {
+fn limits_are_in_parentheses(rt: HostRuntime) -> Result<(), Fail> {
     let table: [(&[u8], &str); 22] = [
         (b"()", "SETQUOTA []"),
         (b"(STORAGE 0)", "SETQUOTA [] Some(Storage) 0"),
@@ -125,22 +228,22 @@ fn limits_stand_in_parentheses(rt: HostRuntime) -> Result<(), Fail> {
             b"(STORAGE 0000000000000000001)",
             "SETQUOTA [] Some(Storage) 1",
         ),
-        (b"(STORAGE 00000000000000000001)", "not built"),
-        (b"(STORAGE 9223372036854775808)", "not built"),
-        (b"(STORAGE 10000000000000000000)", "not built"),
-        (b"(STORAGE +1)", "not built"),
-        (b"(STORAGE -1)", "not built"),
-        (b"(STORAGE )", "not built"),
-        (b"(STORAGE)", "not built"),
-        (b"( STORAGE 1)", "not built"),
-        (b"(STORAGE 1 )", "not built"),
-        (b"(STORAGE  1)", "not built"),
-        (b"(STORAGE 1  MESSAGE 1)", "not built"),
-        (b"(\"STORAGE\" 1)", "not built"),
-        (b"(STORAGE 1", "not built"),
-        (b"STORAGE 1)", "not built"),
-        (b"(STORAGE 1))", "not built"),
-        (b"", "not built"),
+        (b"(STORAGE 00000000000000000001)", "syntax 42"),
+        (b"(STORAGE 9223372036854775808)", "syntax 41"),
+        (b"(STORAGE 10000000000000000000)", "syntax 42"),
+        (b"(STORAGE +1)", "syntax 23"),
+        (b"(STORAGE -1)", "syntax 23"),
+        (b"(STORAGE )", "syntax 23"),
+        (b"(STORAGE)", "syntax 22"),
+        (b"( STORAGE 1)", "syntax 15"),
+        (b"(STORAGE 1 )", "syntax 25"),
+        (b"(STORAGE  1)", "syntax 23"),
+        (b"(STORAGE 1  MESSAGE 1)", "syntax 25"),
+        (b"(\"STORAGE\" 1)", "syntax 15"),
+        (b"(STORAGE 1", "syntax 24"),
+        (b"STORAGE 1)", "syntax 14"),
+        (b"(STORAGE 1))", "syntax 25"),
+        (b"", "syntax 14"),
     ];
     for (limits, wanted) in table {
         let mut line = b"a SETQUOTA \"\" ".to_vec(rt.alloc())?;
