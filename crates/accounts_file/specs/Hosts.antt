@@ -1,5 +1,5 @@
 -- The table of a host's accounts, and what is looked up in it.
-use Rattle.std.specs.Prelude.{◌≡◌, ◌≤◌, ◌<◌, ℕ, Bool, true, not, ◌&&◌, List, [], ◌∷◌, length, map, position, slice_get, bytes_eq, nat_eq, codes, All, Option, None, Some}
+use Rattle.std.specs.Prelude.{◌≡◌, ◌≤◌, ◌<◌, ℕ, Bool, true, not, ◌&&◌, List, [], ◌∷◌, length, map, position, slice_get, bytes_eq, nat_eq, codes, All, Option, None, Some, IfSome}
 use Rattle.std.specs.List.{list_any}
 use Rattle.std.specs.Str.{str_eq_ignore_ascii_case}
 use Rattle.quota_units.specs.Limiting.{LimitNumbers}
@@ -27,6 +27,10 @@ pub record AreAccounts (accounts : List AccountEntry) : Type 0 where
   pub few : length accounts ≤ 32
   pub different : AreDifferent accounts
   pub sound : All (λ (account : AccountEntry). IsSound account.setup) accounts
+
+-- a number that is given is that of one of the accounts
+abbrev pub IsOneOf : List AccountEntry → Option ℕ → Type 0
+IsOneOf accounts number = IfSome number (λ account. account < length accounts)
 
 -- the account of this name
 abbrev pub named : List AccountEntry → List ℕ → Option ℕ

@@ -1,5 +1,5 @@
 -- Refusals, and which of several comes first.
-use Rattle.std.specs.Prelude.{◌≡◌, ◌⊎◌, ℕ, Bool, true, false, List, [], ◌∷◌, nat_le, if◌then◌else◌, Option, None, Some, Result, MatchResult}
+use Rattle.std.specs.Prelude.{◌≡◌, ◌⊎◌, ℕ, Bool, true, false, List, [], ◌∷◌, nat_le, if◌then◌else◌, Option, None, Some, Result, IfErr, MatchResult}
 use Rattle.accounts_file.specs.declared.key.Key.{Key}
 use Rattle.accounts_file.specs.declared.error.AccountsError.{AccountsError}
 use Rattle.accounts_file.specs.declared.error.AccountsError.TheVariants.{Missing, BadValue, Double, TooMany, NoMemory}
@@ -38,6 +38,10 @@ double (Some name) = Some (Double name)
 abbrev pub IsRead : {A : Type 0} → Option AccountsError → A → Result A AccountsError → Type 0
 IsRead refusal value result = MatchResult result (λ read. (refusal ≡ None)
     × (read ≡ value)) (λ e. (e ≡ NoMemory) ⊎ (refusal ≡ Some e))
+
+-- the only error is that memory ran out
+abbrev pub OnlyNoMemory : {A : Type 0} → Result A AccountsError → Type 0
+OnlyNoMemory result = IfErr result (λ e. e ≡ NoMemory)
 
 -- nothing is refused; or this is the refusal; or memory ran out
 abbrev pub Checks : {A : Type 0} → Option AccountsError → Result A AccountsError → Type 0

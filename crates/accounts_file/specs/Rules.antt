@@ -53,12 +53,12 @@ abbrev pub fits : Key → List ℕ → Bool
 fits key text = nat_le (length text) 255 && is_right key (spelling key text)
 
 -- the largest number at the key; each key's numbers begin at 1
-abbrev pub most : Key → ℕ
-most Workers = 16
-most Journal = 524288
-most Storage = MAX_LIMIT
-most Messages = MAX_LIMIT
-most _ = 65535
+abbrev pub largest : Key → ℕ
+largest Workers = 16
+largest Journal = 524288
+largest Storage = MAX_LIMIT
+largest Messages = MAX_LIMIT
+largest _ = 65535
 
 abbrev pub is_number : Key → ℕ → Bool
-is_number key n = nat_le 1 n && nat_le n (most key)
+is_number key n = nat_le 1 n && nat_le n (largest key)

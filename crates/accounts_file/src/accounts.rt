@@ -130,9 +130,6 @@ pub(crate) fn read_drafts(alloc: Global, file: &Table) -> Result<Vec<Draft>, Acc
 {
     match value_at(file, Key::Account) {
         None => Err(AccountsError::Missing { key: Key::Account }),
-        Some(value) => match tables_of(Key::Account, 32, value) {
-            Err(refusal) => Err(refusal),
-            Ok(values) => read_values(alloc, values),
-        },
+        Some(value) => read_values(alloc, tables_of(Key::Account, 32, value)?),
     }
 }

@@ -5,7 +5,7 @@ ghost use Rattle.quota_roots.specs.RootLists.{first_double};
 ghost use Rattle.quota_roots.specs.Setups.{IsSound};
 ghost use Rattle.accounts_file.specs.Doubles.{all_recipients, doubles_refusal, has_same, is_inserted, own_double, repeated, repeated_in_any_case, repeated_root};
 ghost use Rattle.accounts_file.specs.Hosts.{AreDifferent};
-ghost use Rattle.accounts_file.specs.Refusals.{double, first_in, Checks, IsRead};
+ghost use Rattle.accounts_file.specs.Refusals.{double, first_in, Checks, IsRead, OnlyNoMemory};
 
 use crate::draft::Draft;
 use crate::entry::AccountEntry;
@@ -161,7 +161,7 @@ fn entries_of(alloc: Global, drafts: Vec<Draft>) -> Result<Vec<AccountEntry>, Ac
 /// Adds copies of the names at the end of `to`.
 fn copy_names(alloc: Global, names: &[Name], to: &mut Vec<Name>) -> Result<(), AccountsError>
     ensures ok { OnOk result (to.new.items ≡ to.old.items ++ names.now) }
-    ensures err { IfErr result (λ e. e ≡ AccountsError.NoMemory) }
+    ensures err { OnlyNoMemory result }
 {
     for name in names {
         to.push(name_of(alloc, name.as_slice())?)?;
@@ -171,7 +171,7 @@ fn copy_names(alloc: Global, names: &[Name], to: &mut Vec<Name>) -> Result<(), A
 
 fn all_names(alloc: Global, drafts: &[Draft]) -> Result<Vec<Name>, AccountsError>
     ensures ok { IfOk result (λ names. names.items ≡ map (λ account. account.name) drafts.now) }
-    ensures err { IfErr result (λ e. e ≡ AccountsError.NoMemory) }
+    ensures err { OnlyNoMemory result }
 {
     let mut names = Vec::new(alloc);
     for draft in drafts {
@@ -182,7 +182,7 @@ fn all_names(alloc: Global, drafts: &[Draft]) -> Result<Vec<Name>, AccountsError
 
 fn all_tokens(alloc: Global, drafts: &[Draft]) -> Result<Vec<Name>, AccountsError>
     ensures ok { IfOk result (λ names. names.items ≡ map (λ account. account.token) drafts.now) }
-    ensures err { IfErr result (λ e. e ≡ AccountsError.NoMemory) }
+    ensures err { OnlyNoMemory result }
 {
     let mut names = Vec::new(alloc);
     for draft in drafts {
@@ -194,7 +194,7 @@ fn all_tokens(alloc: Global, drafts: &[Draft]) -> Result<Vec<Name>, AccountsErro
 #[tactic(auto, using(crate::proofs::DoubleLemmas::recipients_more))]
 fn all_recipients(alloc: Global, drafts: &[Draft]) -> Result<Vec<Name>, AccountsError>
     ensures ok { IfOk result (λ names. names.items ≡ all_recipients drafts.now) }
-    ensures err { IfErr result (λ e. e ≡ AccountsError.NoMemory) }
+    ensures err { OnlyNoMemory result }
 {
     let mut names = Vec::new(alloc);
     for draft in drafts {

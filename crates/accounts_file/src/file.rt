@@ -53,9 +53,8 @@ fn parse(alloc: Global, bytes: &[u8]) -> Result<Table, AccountsError>
         ⊎ ((e ≡ AccountsError.NotToml) × (document bytes.now ≡ None))) }
 {
     match toml::de::table_from_slice(alloc, bytes) {
-        Ok(table) => Ok(table),
-        Err(e) if e.is_memory() => Err(AccountsError::NoMemory),
-        Err(_) => Err(AccountsError::NotToml),
+        Err(error) if !error.is_memory() => Err(AccountsError::NotToml),
+        table => table.map_err(|_| AccountsError::NoMemory),
     }
 }
 

@@ -1,8 +1,8 @@
-ghost use Rattle.std.specs.Prelude.{◌≡◌, ◌<◌, ◌&&◌, bytes_eq, length, slice_get, Some, IfSome};
+ghost use Rattle.std.specs.Prelude.{◌≡◌, ◌<◌, ◌&&◌, bytes_eq, length, slice_get, Some};
 ghost use Rattle.std.specs.List.{list_any};
 ghost use Rattle.std.specs.Str.{str_eq_ignore_ascii_case};
 ghost use Rattle.quota_roots.specs.Setups.{IsSound};
-ghost use Rattle.accounts_file.specs.Hosts.{AreAccounts, HaveDifferentLogins, holder, is_secret_of, logged_in, named, port_of, receiver};
+ghost use Rattle.accounts_file.specs.Hosts.{AreAccounts, HaveDifferentLogins, holder, is_secret_of, logged_in, named, port_of, receiver, IsOneOf};
 
 use crate::entry::AccountEntry;
 use crate::settings::Settings;
@@ -54,7 +54,7 @@ impl HostTable {
     /// The number of the account of this name.
     pub fn named(&self, name: &[u8]) -> Option<u32>
         ensures value { result ≡ named self.now.accounts name.now }
-        ensures within { IfSome result (λ account. account < length self.now.accounts) }
+        ensures within { IsOneOf self.now.accounts result }
     {
         named(&self.accounts, name).map(|at| at as u32)
     }
@@ -63,7 +63,7 @@ impl HostTable {
     /// account with an empty password.
     pub fn login(&self, name: &[u8], password: &[u8]) -> Option<u32>
         ensures value { result ≡ logged_in self.now.accounts name.now password.now }
-        ensures within { IfSome result (λ account. account < length self.now.accounts) }
+        ensures within { IsOneOf self.now.accounts result }
     {
         logged_in(&self.accounts, name, password).map(|at| at as u32)
     }
@@ -71,7 +71,7 @@ impl HostTable {
     /// The number of the account that has this token. An empty token belongs to no account.
     pub fn token(&self, token: &[u8]) -> Option<u32>
         ensures value { result ≡ holder self.now.accounts token.now }
-        ensures within { IfSome result (λ account. account < length self.now.accounts) }
+        ensures within { IsOneOf self.now.accounts result }
     {
         holder(&self.accounts, token).map(|at| at as u32)
     }
@@ -90,7 +90,7 @@ impl HostTable {
     /// ASCII case.
     pub fn recipient(&self, address: &[u8]) -> Option<u32>
         ensures value { result ≡ receiver self.now.accounts address.now }
-        ensures within { IfSome result (λ account. account < length self.now.accounts) }
+        ensures within { IsOneOf self.now.accounts result }
     {
         receiver(&self.accounts, address).map(|at| at as u32)
     }

@@ -118,10 +118,7 @@ pub(crate) fn read_roots(alloc: Global, account: &Table) -> Result<RootsRead, Ac
             let none = Value::Table(Table::new(alloc));
             read_values(alloc, &[none])
         }
-        Some(value) => match tables_of(Key::Root, 4, value) {
-            Err(refusal) => Err(refusal),
-            Ok(values) => read_values(alloc, values),
-        },
+        Some(value) => read_values(alloc, tables_of(Key::Root, 4, value)?),
     }
 }
 

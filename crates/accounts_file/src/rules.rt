@@ -1,6 +1,6 @@
 ghost use Rattle.std.specs.Prelude.{◌≡◌, ◌<◌, ◌≤◌, length};
 ghost use Rattle.std.specs.List.{list_all};
-ghost use Rattle.accounts_file.specs.Rules.{fits, is_account_name, is_id_byte, is_prefix, is_right, is_secret, is_secret_byte, most, spelling};
+ghost use Rattle.accounts_file.specs.Rules.{fits, is_account_name, is_id_byte, is_prefix, is_right, is_secret, is_secret_byte, largest, spelling};
 
 use crate::key::Key;
 use quota_roots::{canonical_spelling, is_mailbox_name, is_root_name};
@@ -88,8 +88,8 @@ fn is_prefix(prefix: &[u8]) -> bool
 }
 
 /// The largest number that the key may have. Each key's numbers begin at 1.
-pub(crate) fn most(key: Key) -> u64
-    ensures value { result ≡ most key }
+pub(crate) fn largest(key: Key) -> u64
+    ensures value { result ≡ largest key }
     ensures small { result < 8796093022208 }
 {
     match key {

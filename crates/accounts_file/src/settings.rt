@@ -2,7 +2,7 @@ ghost use Rattle.std.specs.Prelude.{◌≡◌};
 ghost use Rattle.toml.specs.View.{table_view};
 ghost use Rattle.accounts_file.specs.Files.{settings_of, settings_refusal};
 ghost use Rattle.accounts_file.specs.Refusals.{IsRead};
-ghost use Rattle.accounts_file.specs.Rules.{most};
+ghost use Rattle.accounts_file.specs.Rules.{largest};
 ghost use Rattle.accounts_file.specs.Values.{number_at, number_refusal};
 
 use crate::error::AccountsError;
@@ -42,7 +42,7 @@ pub(crate) fn read_settings(file: &Table) -> Result<Settings, AccountsError>
 
 /// The port at the key.
 fn port_at(file: &Table, key: Key) -> Result<Option<u16>, AccountsError>
-    requires { most key ≡ 65535 }
+    requires { largest key ≡ 65535 }
     ensures { IsRead (number_refusal key (table_view file.now))
         (number_at key (table_view file.now)) result }
 {

@@ -4,12 +4,12 @@ ghost use Rattle.toml.specs.Data.{get_member};
 ghost use Rattle.toml.specs.View.{view, table_view};
 ghost use Rattle.accounts_file.specs.Keys.{value_at};
 ghost use Rattle.accounts_file.specs.Refusals.{judged, IsRead};
-ghost use Rattle.accounts_file.specs.Rules.{most};
+ghost use Rattle.accounts_file.specs.Rules.{largest};
 ghost use Rattle.accounts_file.specs.Values.{flag_at, flag_refusal, needed_text_refusal, number_at, number_of, number_refusal, text_at, text_of, text_or_empty, text_refusal};
 
 use crate::error::AccountsError;
 use crate::key::Key;
-use crate::rules::{fits, most, spelling};
+use crate::rules::{fits, largest, spelling};
 use quota_units::Name;
 use std::alloc::Global;
 use toml::{Table, Value};
@@ -32,10 +32,10 @@ pub(crate) fn value_at<'a>(table: &'a Table, key: Key) -> Option<&'a Value>
 /// The number that the value is, if the key may have it.
 fn number_of(key: Key, value: &Value) -> Option<u64>
     ensures value { result ≡ number_of key (view value.now) }
-    ensures range { IfSome result (λ n. (1 ≤ n) × (n ≤ most key)) }
+    ensures range { IfSome result (λ n. (1 ≤ n) × (n ≤ largest key)) }
 {
     match value.as_integer() {
-        Some(n) if 1 <= n && n as u64 <= most(key) => Some(n as u64),
+        Some(n) if 1 <= n && n as u64 <= largest(key) => Some(n as u64),
         _ => None,
     }
 }
@@ -44,7 +44,7 @@ fn number_of(key: Key, value: &Value) -> Option<u64>
 pub(crate) fn number_at(table: &Table, key: Key) -> Result<Option<u64>, AccountsError>
     ensures reads { IsRead (number_refusal key (table_view table.now))
         (number_at key (table_view table.now)) result }
-    ensures range { IfOk result (λ number. IfSome number (λ n. (1 ≤ n) × (n ≤ most key))) }
+    ensures range { IfOk result (λ number. IfSome number (λ n. (1 ≤ n) × (n ≤ largest key))) }
 {
     match value_at(table, key) {
         None => Ok(None),
@@ -85,10 +85,7 @@ pub(crate) fn name_of(alloc: Global, bytes: &[u8]) -> Result<Name, AccountsError
     requires { length bytes.now ≤ 255 }
     ensures { IsRead None bytes.now result }
 {
-    match Name::of(alloc, bytes) {
-        Ok(name) => Ok(name),
-        Err(_) => Err(AccountsError::NoMemory),
-    }
+    Ok(Name::of_short(alloc, bytes)?)
 }
 
 /// The text at the key, which must be there.

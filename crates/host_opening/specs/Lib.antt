@@ -1,0 +1,4 @@
+pub mod Telling
+pub mod Opening
+pub mod Refusing
+pub mod Closing
