@@ -5,12 +5,14 @@ use Rattle.wire_io.specs.declared.ends.SessionEnd.{SessionEnd}
 use Rattle.wire_io.specs.Protocol.{Protocol}
 use Rattle.wire_io.specs.Requests.{TakesRequest}
 use Rattle.wire_io.specs.Serving.{IsSession}
+use Rattle.wire_io.proofs.Serving.{session_with}
 use Rattle.accounts_file.specs.Hosts.{Hosts}
 use Rattle.account_core.specs.Histories.{Origin}
 use Rattle.account_core.specs.History.{Answer}
-use Rattle.desk.specs.Shares.{Share}
+use Rattle.desk.specs.Shares.{HaveNoFailure, Share}
 use Rattle.desk.specs.Asking.{DeskCall}
-use Rattle.desk.specs.Logs.{IsLog}
+use Rattle.desk.specs.Logs.{IsLog, IsRepliedLog}
+use Rattle.desk.proofs.Replying.{logs_without_failure_are_replied}
 use Rattle.imap_front.specs.Serving.{IsDeskOf}
 
 -- a desk of the table's accounts stays one
@@ -43,15 +45,15 @@ module _ {State Request Call Answer : Type 0} (p : Protocol State Request Call A
 
   module _ (greeting : List ℕ) (start : State) (written written' : Option (List ℕ)) (end : SessionEnd) (s : IsSession p greeting start limit (λ log. Logs log × Leads) left left' written written' end) where
     pub session_alone : IsSession p greeting start limit Logs left left' written written' end
-    session_alone = record {
-      taken = s.taken;
-      log = s.log;
-      text = s.text;
-      consumed = s.consumed;
-      appended = s.appended;
-      logged = s.logged.0;
-      session = s.session;
-    }
+    session_alone = session_with p greeting start limit (λ log. Logs log × Leads) Logs left left' written written' end (λ log made. made.0) s
 
     pub session_leads : Leads
     session_leads = s.logged.1
+
+-- a session without failures
+module _ {State Request : Type 0} (p : Protocol State Request DeskCall Answer) where
+  pub session_replied : (greeting : List ℕ) (start : State) (limit : ℕ) (shares shares' : List Share) (left left' written written' : Option (List ℕ)) (end : SessionEnd)
+      → HaveNoFailure shares' → IsSession p greeting start limit (IsLog shares shares') left left' written written' end
+      → IsSession p greeting start limit (IsRepliedLog shares shares') left left' written written' end
+  session_replied greeting start limit shares shares' left left' written written' end none s =
+      session_with p greeting start limit (IsLog shares shares') (IsRepliedLog shares shares') left left' written written' end (λ log made. logs_without_failure_are_replied shares shares' log made none) s

@@ -1,7 +1,9 @@
 pub mod Rows
 pub mod Repeats
 pub mod AnswerTexts
-pub mod Lines
-pub mod Wording
 pub mod Asking
 pub mod Leading
+pub mod Coming
+pub mod Lining
+pub mod Wording
+pub mod Serving

@@ -1,6 +1,9 @@
 pub mod AskedLimits
 pub mod Texts
+pub mod Answers
 pub mod Imap
+pub mod Taking
 pub mod Serving
 pub mod Filled
 pub mod OneWay
+pub mod Wording

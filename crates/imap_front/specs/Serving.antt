@@ -11,7 +11,8 @@ use Rattle.account_core.specs.History.{Answer}
 use Rattle.desk.specs.Shares.{Share, share_at}
 use Rattle.desk.specs.Asking.{DeskCall}
 use Rattle.desk.specs.Logs.{IsLog}
-use Rattle.imap_front.specs.Texts.{CommandKind, answer_text, greeting}
+use Rattle.imap_front.specs.Answers.{CommandKind, answer_text}
+use Rattle.imap_front.specs.Texts.{greeting}
 use Rattle.imap_front.specs.Imap.{imap}
 
 -- the most bytes that a session takes
@@ -35,14 +36,18 @@ pub record IsDeskOf (hosts : Hosts) (shares : List Share) : Type 0 where
 abbrev pub IsLogin : Hosts → Option ℕ → Type 0
 IsLogin hosts login = IfSome login (λ account. account < length hosts.accounts)
 
+-- a desk with these shares has the account of this number, with the roots of this entry
+pub record IsOwnerOf (shares : List Share) (account : ℕ) (entry : AccountEntry) : Type 0 where
+  pub there : account < length shares
+  pub roots : (share_at shares account).origin.roots ≡ entry.setup.roots
+
 -- The bytes that left the source, the calls on the desk with their answers, the bytes that the sink
 -- gained and the end are a session of IMAP, in which this account, or nobody, is logged in at the
--- start.
-abbrev pub IsImapSession : Hosts → (login : Option ℕ) → (shares shares' : List Share)
+-- start. `Logs` says of the calls what they did to the desk.
+abbrev pub IsImapSession : Hosts → (login : Option ℕ) → (Logs : List (DeskCall × Answer) → Type 0)
     → (left left' written written' : Option (List ℕ)) → SessionEnd → Type 0
-IsImapSession hosts login shares shares' left left' written written' end =
-    IsSession (imap hosts) (greeting login) login input_limit (IsLog shares shares')
-    left left' written written' end
+IsImapSession hosts login Logs left left' written written' end =
+    IsSession (imap hosts) (greeting login) login input_limit Logs left left' written written' end
 
 module _ (shares shares' : List Share) where
   -- the call was made, and this text answers the command of this kind and tag

@@ -1,18 +1,19 @@
--- The lines that an IMAP session writes. The QUOTA and QUOTAROOT responses are those of RFC 9208.
--- The texts after OK, NO, BAD and BYE are this project's own.
-use Rattle.std.specs.Prelude.{◌≡◌, ◌≢◌, ◌<◌, ℕ, List, [], ◌++◌, length, codes, Option, None, Some}
-use Rattle.std.specs.List.{All, flat_map}
+-- The lines that an IMAP session writes. The QUOTA and QUOTAROOT responses are those of RFC 9208,
+-- the STATUS and CAPABILITY responses those of RFC 9051. The texts after OK, NO, BAD and BYE are
+-- this project's own.
+use Rattle.std.specs.Prelude.{ℕ, List, [], ◌∷◌, ◌++◌, codes, Option, None, Some}
+use Rattle.std.specs.List.{flat_map}
 use Rattle.std.specs.Fmt.{decimal}
 use Rattle.quota_units.specs.Units.{units_of}
 use Rattle.quota_roots.specs.declared.root.RootSpec.{RootSpec}
 use Rattle.quota_roots.specs.RootLists.{name_at}
 use Rattle.imap_grammar.specs.Printing.{printed}
+use Rattle.imap_grammar.specs.declared.command.CommandFault.{CommandFault}
+use Rattle.imap_grammar.specs.declared.command.CommandFault.TheVariants.{TooLong, InvalidTag, Unknown, NotAuthenticated, AlreadyAuthenticated, Syntax, LiteralTooLarge, MessageTooLarge, NoMemory}
+use Rattle.imap_grammar.specs.declared.status.StatusItem.{StatusItem}
+use Rattle.imap_grammar.specs.declared.status.StatusItem.TheVariants.{Messages, Unseen, Deleted, DeletedStorage, Size}
 use Rattle.account_core.specs.declared.calls.RootRow.{RootRow}
-use Rattle.account_core.specs.declared.calls.Reply.{Reply}
-use Rattle.account_core.specs.declared.calls.Reply.TheVariants.{NoRoot, Quota, LimitsSet, Roots}
-use Rattle.account_core.specs.History.{Answer, replied, journal_full}
-use Rattle.imap_front.specs.declared.texts.Kind.{Kind}
-use Rattle.imap_front.specs.declared.texts.Kind.TheVariants.{GetQuota, GetQuotaRoot, SetQuota}
+use Rattle.imap_front.specs.declared.status_lines.MailboxCounts.{MailboxCounts}
 
 abbrev pub crlf : List ℕ
 crlf = codes "\r\n"
@@ -59,9 +60,40 @@ abbrev pub quota_root_line : List RootSpec → List ℕ → List RootRow → Lis
 quota_root_line roots mailbox rows =
     codes "* QUOTAROOT " ++ (printed mailbox ++ (flat_map (root_after_space roots) rows ++ crlf))
 
--- the answer to a command that needs a login, if nobody is logged in
-abbrev pub not_authenticated_text : List ℕ → List ℕ
-not_authenticated_text tag = tagged_line tag (codes "BAD Not authenticated")
+abbrev pub item_name : StatusItem → List ℕ
+item_name Messages = codes "MESSAGES"
+item_name Unseen = codes "UNSEEN"
+item_name Deleted = codes "DELETED"
+item_name DeletedStorage = codes "DELETED-STORAGE"
+item_name Size = codes "SIZE"
+
+-- what a mailbox has of an item
+abbrev pub item_value : StatusItem → MailboxCounts → ℕ
+item_value Messages counts = counts.messages
+item_value Unseen counts = counts.unseen
+item_value Deleted counts = counts.deleted
+item_value DeletedStorage counts = counts.deleted_octets
+item_value Size counts = counts.octets
+
+-- an item and its value; nothing for an item that this service does not have
+abbrev pub item_text : MailboxCounts → Option StatusItem → List ℕ
+item_text counts (Some item) = item_name item ++ (codes " " ++ decimal (item_value item counts))
+item_text counts None = []
+
+abbrev pub item_after_space : MailboxCounts → Option StatusItem → List ℕ
+item_after_space counts item = codes " " ++ item_text counts item
+
+-- the items in their order, separated by spaces
+abbrev pub items_text : MailboxCounts → List (Option StatusItem) → List ℕ
+items_text counts [] = []
+items_text counts (item ∷ items) =
+    item_text counts item ++ flat_map (item_after_space counts) items
+
+-- the STATUS response for a mailbox (RFC 9051, section 7.3.4)
+abbrev pub status_line : (mailbox : List ℕ) → List (Option StatusItem) → MailboxCounts → List ℕ
+status_line mailbox items counts =
+    codes "* STATUS " ++ (printed mailbox ++ (codes " ("
+    ++ (items_text counts items ++ (codes ")" ++ crlf))))
 
 -- the answer to SETQUOTA if the account may not set limits
 abbrev pub not_permitted_text : List ℕ → List ℕ
@@ -71,6 +103,18 @@ not_permitted_text tag = tagged_line tag (codes "NO [NOPERM] Not permitted")
 abbrev pub no_root_text : List ℕ → List ℕ
 no_root_text tag = tagged_line tag (codes "NO No such quota root")
 
+-- the answer to STATUS of a mailbox that does not exist
+abbrev pub no_mailbox_text : List ℕ → List ℕ
+no_mailbox_text tag = tagged_line tag (codes "NO No such mailbox")
+
+-- the answer to APPEND to a mailbox that does not exist (RFC 9051, section 6.3.12)
+abbrev pub try_create_text : List ℕ → List ℕ
+try_create_text tag = tagged_line tag (codes "NO [TRYCREATE] No such mailbox")
+
+-- the answer to STATUS if an item is none that this service has
+abbrev pub no_item_text : List ℕ → List ℕ
+no_item_text tag = tagged_line tag (codes "NO Status item not supported")
+
 -- the answer if the store failed
 abbrev pub unavailable_text : List ℕ → List ℕ
 unavailable_text tag = tagged_line tag (codes "NO [UNAVAILABLE] Store unavailable")
@@ -79,83 +123,60 @@ unavailable_text tag = tagged_line tag (codes "NO [UNAVAILABLE] Store unavailabl
 abbrev pub journal_full_text : List ℕ → List ℕ
 journal_full_text tag = tagged_line tag (codes "NO [LIMIT] Journal full")
 
--- a command that makes a call, with the part of it that the answer repeats
-pub data CommandKind : Type 0 where
-  get_quota : CommandKind
-  get_quota_root : (mailbox : List ℕ) → CommandKind
-  set_quota : CommandKind
-
--- The text that answers each command, given the answer to its call, if the account has these roots.
--- A command's call gets no reply of another kind; such a reply is written as a failed store.
-abbrev pub get_quota_text : List RootSpec → (tag : List ℕ) → Answer → List ℕ
-get_quota_text roots tag (replied NoRoot) = no_root_text tag
-get_quota_text roots tag (replied (Quota row)) =
-    root_line roots row ++ tagged_line tag (codes "OK GETQUOTA completed")
-get_quota_text roots tag journal_full = journal_full_text tag
-get_quota_text roots tag answer = unavailable_text tag
-
-abbrev pub get_quota_root_text : List RootSpec → (mailbox tag : List ℕ) → Answer → List ℕ
-get_quota_root_text roots mailbox tag (replied (Roots rows)) =
-    quota_root_line roots mailbox rows
-    ++ (flat_map (root_line roots) rows ++ tagged_line tag (codes "OK GETQUOTAROOT completed"))
-get_quota_root_text roots mailbox tag journal_full = journal_full_text tag
-get_quota_root_text roots mailbox tag answer = unavailable_text tag
-
-abbrev pub set_quota_text : List RootSpec → (tag : List ℕ) → Answer → List ℕ
-set_quota_text roots tag (replied NoRoot) = no_root_text tag
-set_quota_text roots tag (replied (LimitsSet row)) =
-    root_line roots row ++ tagged_line tag (codes "OK SETQUOTA completed")
-set_quota_text roots tag journal_full = journal_full_text tag
-set_quota_text roots tag answer = unavailable_text tag
-
-abbrev pub answer_text : List RootSpec → CommandKind → (tag : List ℕ) → Answer → List ℕ
-answer_text roots get_quota tag answer = get_quota_text roots tag answer
-answer_text roots (get_quota_root mailbox) tag answer = get_quota_root_text roots mailbox tag answer
-answer_text roots set_quota tag answer = set_quota_text roots tag answer
-
--- these roots include those that the reply to a command's call names
-abbrev pub HasRootsOf : List RootSpec → Reply → Type 0
-HasRootsOf roots (Quota row) = row.root < length roots
-HasRootsOf roots (LimitsSet row) = row.root < length roots
-HasRootsOf roots (Roots rows) = All (λ row. row.root < length roots) rows
-HasRootsOf roots given = Unit {0}
-
--- the kind of command that the code's `Kind` stands for
-abbrev pub kind_of : Kind → CommandKind
-kind_of GetQuota = get_quota
-kind_of (GetQuotaRoot mailbox) = get_quota_root mailbox.now
-kind_of SetQuota = set_quota
-
--- the last line answers the command with this tag
-abbrev pub EndsTagged : (tag text : List ℕ) → Type 0
-EndsTagged tag text = (front words : List ℕ) × (text ≡ front ++ tagged_line tag words)
-
--- Whatever the answer to its call, a command is answered with a text that is not empty.
-abbrev pub AnswersHaveTexts : Type 0
-AnswersHaveTexts = (roots : List RootSpec) (kind : CommandKind) (tag : List ℕ) (answer : Answer)
-    → answer_text roots kind tag answer ≢ []
-
--- Whatever the answer to its call, the text's last line answers the command with this tag.
-abbrev pub AnswersEndTagged : Type 0
-AnswersEndTagged = (roots : List RootSpec) (kind : CommandKind) (tag : List ℕ) (answer : Answer)
-    → EndsTagged tag (answer_text roots kind tag answer)
-
--- the answer if a mailbox's name has more than 255 bytes
+-- the answer to GETQUOTAROOT if the mailbox's name has more than 255 bytes
 abbrev pub name_too_long_text : List ℕ → List ℕ
 name_too_long_text tag = tagged_line tag (codes "NO Name too long")
+
+-- the answer to CAPABILITY: RFC 9051, section 7.2.2; RFC 9208, on capabilities
+abbrev pub capability_text : List ℕ → List ℕ
+capability_text tag = codes
+    "* CAPABILITY IMAP4rev1 QUOTA QUOTASET QUOTA=RES-STORAGE QUOTA=RES-MESSAGE STATUS=SIZE\r\n"
+    ++ tagged_line tag (codes "OK CAPABILITY completed")
+
+-- the answer to NOOP
+abbrev pub noop_text : List ℕ → List ℕ
+noop_text tag = tagged_line tag (codes "OK NOOP completed")
 
 -- the answer to LOGOUT
 abbrev pub logout_text : List ℕ → List ℕ
 logout_text tag = codes "* BYE quotad closing\r\n" ++ tagged_line tag (codes "OK LOGOUT completed")
+
+-- the answer to LOGIN, by the account that the name and the password are of, if they are of one
+abbrev pub login_text : List ℕ → Option ℕ → List ℕ
+login_text tag (Some account) = tagged_line tag (codes "OK LOGIN completed")
+login_text tag None = tagged_line tag (codes "NO [AUTHENTICATIONFAILED] Login failed")
+
+-- the words after the tag that answer a text that is no command
+abbrev pub fault_words : CommandFault → List ℕ
+fault_words TooLong = codes "BYE Command too long"
+fault_words InvalidTag = codes "BAD Invalid tag"
+fault_words Unknown = codes "BAD Unknown command"
+fault_words NotAuthenticated = codes "BAD Not authenticated"
+fault_words AlreadyAuthenticated = codes "BAD Already authenticated"
+fault_words (Syntax at) = codes "BAD Syntax error at " ++ decimal at
+fault_words LiteralTooLarge = codes "BAD Literal too large"
+fault_words MessageTooLarge = codes "NO [LIMIT] Message too large"
+-- no text has this fault
+fault_words NoMemory = codes "NO [UNAVAILABLE] Out of memory"
+
+-- the tag of the line that answers a fault: the command's, or * if the text has none
+abbrev pub fault_line_tag : CommandFault → (tag : List ℕ) → List ℕ
+fault_line_tag TooLong tag = codes "*"
+fault_line_tag InvalidTag tag = codes "*"
+fault_line_tag Unknown tag = tag
+fault_line_tag NotAuthenticated tag = tag
+fault_line_tag AlreadyAuthenticated tag = tag
+fault_line_tag (Syntax at) tag = tag
+fault_line_tag LiteralTooLarge tag = tag
+fault_line_tag MessageTooLarge tag = tag
+fault_line_tag NoMemory tag = codes "*"
+
+-- the answer to a text that is no command, by its fault
+abbrev pub fault_text : (tag : List ℕ) → CommandFault → List ℕ
+fault_text tag fault = tagged_line (fault_line_tag fault tag) (fault_words fault)
 
 -- what a session writes first, if this account, or nobody, is logged in at its start (RFC 9051,
 -- section 7.1)
 abbrev pub greeting : Option ℕ → List ℕ
 greeting (Some account) = codes "* PREAUTH quotad ready\r\n"
 greeting None = codes "* OK quotad ready\r\n"
-
-abbrev pub too_long_text : List ℕ
-too_long_text = codes "* BYE Command too long\r\n"
-
-abbrev pub not_built_text : List ℕ
-not_built_text = codes "* BAD Not built yet\r\n"

@@ -1,7 +1,7 @@
 ghost use Rattle.wire_io.specs.Protocol.{IsFilled};
 ghost use Rattle.accounts_file.specs.Hosts.{Hosts};
 ghost use Rattle.imap_front.specs.Imap.{imap, ImapCutsOneWay};
-ghost use Rattle.imap_front.specs.Texts.{AnswersHaveTexts, AnswersEndTagged};
+ghost use Rattle.imap_front.specs.Wording.{RequestsHaveTexts, CommandsEndTagged};
 
 /// A law: each text can be continued to a whole request of IMAP, and can be cut into requests in
 /// exactly one way.
@@ -10,9 +10,9 @@ pub fn each_text_has_one_cut()
     ensures one_cut { ImapCutsOneWay }
 {}
 
-/// A law: whatever the account answers to a command's call, the session answers the command with a
-/// text. The last line of the text has the command's tag.
+/// A law: whatever the account answers to its calls, a session answers each request with a text. If
+/// the request is a command, the last line of the text has the command's tag.
 pub fn each_answer_has_a_text()
-    ensures some { AnswersHaveTexts }
-    ensures tagged { AnswersEndTagged }
+    ensures some { RequestsHaveTexts }
+    ensures tagged { CommandsEndTagged }
 {}

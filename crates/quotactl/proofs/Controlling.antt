@@ -67,7 +67,7 @@ fresh_answers n shares' log logged alone =
 
 -- a session is the one that its input gives
 pub output_is : (left left' written written' : Option (List ℕ)) (n : ℕ) (shares' : List Share) (end : SessionEnd)
-    → IsImapSession (hosts_of n) (Some 0) (fresh n) shares' left left' written written' end → All IsUndisturbed shares' → IsQuiet end → end ≢ NoMemory
+    → IsImapSession (hosts_of n) (Some 0) (IsLog (fresh n) shares') left left' written written' end → All IsUndisturbed shares' → IsQuiet end → end ≢ NoMemory
     → IfSome left (λ input. (end ≡ (session_of n input).end) × Appends written written' (greeting (Some 0) ++ (session_of n input).text))
 output_is None left' written written' n shares' end s alone quiet some = tt
 output_is (Some input) None written written' n shares' end s alone quiet some = absurd s.consumed
@@ -93,15 +93,8 @@ control_output words (Some input) left' written written' units m status R W form
     let memory : end ≢ NoMemory = λ e. some (is ∙ ap exit_status e) in
     let same = form_number words units m form own in
     let out = output_is (Some input) left' written written' m shares' end
-    (subst (λ n. IsImapSession (hosts_of n) (Some 0) (fresh n) shares' (Some input) left' written written' end) same session) alone quiet memory in
+    (subst (λ n. IsImapSession (hosts_of n) (Some 0) (IsLog (fresh n) shares') (Some input) left' written written' end) same session) alone quiet memory in
     (is ∙ ap exit_status out.0, out.1)
-
--- two words
-pub two_words : {X : Type 0} (xs : List X) (a b : X) → 2 ≤ length xs → length xs < 3 → a ≡ get_or xs 0 a → b ≡ get_or xs 1 b → xs ≡ a ∷ b ∷ []
-two_words [] a b ge lt i j = absurd (omega (arith, ge))
-two_words (x ∷ []) a b ge lt i j = absurd (omega (arith, ge))
-two_words (x ∷ y ∷ []) a b ge lt i j = ap (λ u. u ∷ y ∷ []) (sym i) ∙ ap (λ v. a ∷ v ∷ []) (sym j)
-two_words (x ∷ y ∷ z ∷ xs) a b ge lt i j = absurd (omega (arith, lt))
 
 -- no other number is spelled so
 pub not_units : (word : List ℕ) (n : ℕ) → word ≡ decimal n → n < 2 ^ 64 → (n ≤ 0) ⊎ (8796093022207 < n) → (m : ℕ) → word ≡ decimal m → 0 < m → m ≤ 8796093022207 → ⊥

@@ -33,11 +33,11 @@ fault_text (BadLine line) = said (codes "bad line ") (decimal line)
 fault_text (Torn at) = said (codes "torn at ") (decimal at)
 
 -- the text that `check` writes for these bytes, and the status
-pub data Tells (bytes text : List ℕ) (status : ℕ) : Type 0 where
+pub data Reports (bytes text : List ℕ) (status : ℕ) : Type 0 where
   values : (ledger : LedgerText) → SumsUp bytes ledger → text ≡ values_text ledger → status ≡ 0
-      → Tells bytes text status
+      → Reports bytes text status
   fault : (first : LedgerFault) → fault_of bytes ≡ Some first → text ≡ fault_text first → status ≡ 3
-      → Tells bytes text status
+      → Reports bytes text status
 
 -- these bytes came from the source: all that it had, or the most that are read
 pub record TakesLedger (left left' : Option (List ℕ)) (bytes : List ℕ) : Type 0 where
@@ -51,11 +51,11 @@ TakesSome left left' = (bytes : List ℕ) × Consumes left left' bytes
 
 pub data ChecksLedger (left left' written written' : Option (List ℕ)) (status : ℕ) : Type 0 where
   -- what the bytes hold was written, or what is wrong with them
-  told : (bytes text : List ℕ) → TakesLedger left left' bytes → Tells bytes text status
+  reported : (bytes text : List ℕ) → TakesLedger left left' bytes → Reports bytes text status
       → Appends written written' text → ChecksLedger left left' written written' status
   -- a write failed, and a proper prefix of that text was written
-  cut : (bytes text : List ℕ) (due : ℕ) → TakesLedger left left' bytes → Tells bytes text due
-      → AppendsPart written written' text → status ≡ 5
+  cut_short : (bytes text : List ℕ) (due : ℕ) → TakesLedger left left' bytes
+      → Reports bytes text due → AppendsPart written written' text → status ≡ 5
       → ChecksLedger left left' written written' status
   -- a read failed or memory ran out, and nothing was written
   unread : TakesSome left left' → Keeps written written' → (status ≡ 4) ⊎ (status ≡ 6)

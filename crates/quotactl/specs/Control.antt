@@ -13,6 +13,7 @@ use Rattle.accounts_file.specs.Hosts.{Hosts, plain_hosts, plain_roots, plain_set
 use Rattle.desk.specs.Asking.{DeskCall}
 use Rattle.desk.specs.Shares.{Share}
 use Rattle.imap_front.specs.Imap.{imap}
+use Rattle.desk.specs.Logs.{IsLog}
 use Rattle.imap_front.specs.Serving.{IsImapSession, input_limit}
 use Rattle.quotactl.specs.Plain.{IsUndisturbed, empty_account, plain_share}
 use Rattle.quotactl.specs.Owner.{owner}
@@ -58,7 +59,8 @@ pub data Runs (left left' written written' : Option (List ℕ)) (n status : ℕ)
   -- the session was served to its end; the owner alone asked the account, and its keeper never
   -- failed
   served : (shares' : List Share) (end : SessionEnd)
-      → IsImapSession (hosts_of n) (Some 0) (fresh n) shares' left left' written written' end
+      → IsImapSession (hosts_of n) (Some 0) (IsLog (fresh n) shares')
+      left left' written written' end
       → All IsUndisturbed shares' → status ≡ exit_status end
       → Runs left left' written written' n status
   -- memory ran out for the account

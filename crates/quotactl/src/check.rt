@@ -1,9 +1,9 @@
 // The command `check`, which says what a ledger holds.
 ghost use Rattle.std.specs.Prelude.{◌≡◌, ◌≢◌, ◌++◌, codes, OnOk, IfOk, IfErr};
-ghost use Rattle.quota_units.specs.Causes.{Rose};
+ghost use Rattle.quota_units.specs.Causes.{HasCause};
 ghost use Rattle.maildirsize.specs.Reading.{SumsUp, fault_of};
 ghost use Rattle.maildirsize.specs.Written.{written_definition};
-ghost use Rattle.quotactl.specs.Checking.{said, sums_text, values_text, fault_text, Tells, TakesLedger, TakesSome, ChecksLedger};
+ghost use Rattle.quotactl.specs.Checking.{said, sums_text, values_text, fault_text, Reports, TakesLedger, TakesSome, ChecksLedger};
 
 use itoa::{Buffer, Integer};
 use maildirsize::{LedgerFault, LedgerText, Text, print_definition, read_ledger};
@@ -28,9 +28,8 @@ fn ledger_bytes<S: Source>(alloc: Global, source: &mut S) -> Result<Vec<u8>, Unr
     ensures ok { IfOk result
         (λ bytes. TakesLedger (S.left source.old) (S.left source.new) bytes.items) }
     ensures err { IfErr result (λ e. TakesSome (S.left source.old) (S.left source.new)) }
-    ensures read_fault { result ≡ Err Unread.Fault
-        → Rose (S.faults source.old) (S.faults source.new) }
-    ensures read_kept { result ≢ Err Unread.Fault → S.faults source.new ≡ S.faults source.old }
+    ensures read_cause { HasCause (result ≡ Err Unread.Fault)
+        (S.faults source.old) (S.faults source.new) }
 {
     let mut bytes = Vec::new(alloc);
     let Ok(mut feed) = Feed::new(source, MAX_CHECKED as u64) else {
@@ -115,8 +114,8 @@ fn push_fault(out: &mut Vec<u8>, fault: LedgerFault) -> Result<(), AllocError>
 }
 
 /// What `check` writes for these bytes, and the exit status.
-fn told(alloc: Global, bytes: &[u8]) -> Result<(Vec<u8>, u8), AllocError>
-    ensures { IfOk result (λ x. Tells bytes.now x.0.items x.1) }
+fn reported(alloc: Global, bytes: &[u8]) -> Result<(Vec<u8>, u8), AllocError>
+    ensures { IfOk result (λ x. Reports bytes.now x.0.items x.1) }
 {
     let mut text = Vec::new(alloc);
     match read_ledger(bytes) {
@@ -139,17 +138,15 @@ fn told(alloc: Global, bytes: &[u8]) -> Result<(Vec<u8>, u8), AllocError>
 pub fn check<S: Source, O: Sink>(alloc: Global, source: &mut S, sink: &mut O) -> u8
     ensures checks { ChecksLedger (S.left source.old) (S.left source.new) (O.written sink.old)
         (O.written sink.new) result }
-    ensures read_fault { result ≡ 4 → Rose (S.faults source.old) (S.faults source.new) }
-    ensures read_kept { result ≢ 4 → S.faults source.new ≡ S.faults source.old }
-    ensures write_fault { result ≡ 5 → Rose (O.faults sink.old) (O.faults sink.new) }
-    ensures write_kept { result ≢ 5 → O.faults sink.new ≡ O.faults sink.old }
+    ensures read_cause { HasCause (result ≡ 4) (S.faults source.old) (S.faults source.new) }
+    ensures write_cause { HasCause (result ≡ 5) (O.faults sink.old) (O.faults sink.new) }
 {
     let bytes = match ledger_bytes(alloc, source) {
         Ok(bytes) => bytes,
         Err(Unread::Fault) => return 4,
         Err(Unread::NoMemory) => return 6,
     };
-    let Ok((text, status)) = told(alloc, &bytes) else {
+    let Ok((text, status)) = reported(alloc, &bytes) else {
         return 6;
     };
     match send(sink, &text) {

@@ -2,10 +2,10 @@
 ghost use Rattle.std.specs.Prelude.{◌≡◌, ◌≢◌, ◌<◌, ◌≤◌, ◌↔◌, ◌++◌, ℕ, List, take, map, IfSome};
 ghost use Rattle.std.specs.String.{string_bytes};
 ghost use Rattle.std.specs.Io.KnownBytes.{Appends};
-ghost use Rattle.quota_units.specs.Causes.{Rose};
+ghost use Rattle.quota_units.specs.Causes.{HasCause, Rose};
 ghost use Rattle.imap_front.specs.Texts.{greeting};
 ghost use Rattle.quotactl.specs.Words.{IsForm, IsNoForm};
-ghost use Rattle.quotactl.specs.Checking.{Tells, max_checked};
+ghost use Rattle.quotactl.specs.Checking.{Reports, max_checked};
 ghost use Rattle.quotactl.specs.Control.{Runs, Controls, exit_status, usage_line, session_of};
 
 use crate::check::check;
@@ -46,10 +46,8 @@ fn run<S: Source, O: Sink>(alloc: Global, units: u64, source: &mut S, sink: &mut
     requires bounded { units ≤ 8796093022207 }
     ensures runs { Runs (S.left source.old) (S.left source.new) (O.written sink.old)
         (O.written sink.new) units result }
-    ensures read_fault { result ≡ 4 → Rose (S.faults source.old) (S.faults source.new) }
-    ensures read_kept { result ≢ 4 → S.faults source.new ≡ S.faults source.old }
-    ensures write_fault { result ≡ 5 → Rose (O.faults sink.old) (O.faults sink.new) }
-    ensures write_kept { result ≢ 5 → O.faults sink.new ≡ O.faults sink.old }
+    ensures read_cause { HasCause (result ≡ 4) (S.faults source.old) (S.faults source.new) }
+    ensures write_cause { HasCause (result ≡ 5) (O.faults sink.old) (O.faults sink.new) }
 {
     let Some(limits) = Limits::new(Some(1024 * units), None) else {
         unreachable!()
@@ -82,10 +80,8 @@ pub fn control<S: Source, O: Sink>(
 
     // Status 4 means that a read failed, and status 5 that a write failed. No other failure is
     // counted.
-    ensures read_fault { result ≡ 4 → Rose (S.faults source.old) (S.faults source.new) }
-    ensures read_kept { result ≢ 4 → S.faults source.new ≡ S.faults source.old }
-    ensures write_fault { result ≡ 5 → Rose (O.faults sink.old) (O.faults sink.new) }
-    ensures write_kept { result ≢ 5 → O.faults sink.new ≡ O.faults sink.old }
+    ensures read_cause { HasCause (result ≡ 4) (S.faults source.old) (S.faults source.new) }
+    ensures write_cause { HasCause (result ≡ 5) (O.faults sink.old) (O.faults sink.new) }
 
     // If nothing failed and memory did not run out, the arguments and the input decide the status
     // and all that is written.
@@ -97,7 +93,7 @@ pub fn control<S: Source, O: Sink>(
     ensures checked { IsForm (map string_bytes words.now) Form.Check
         → IfSome (S.left source.old) (λ input. (Rose (S.faults source.old) (S.faults source.new)
         → ⊥) → (Rose (O.faults sink.old) (O.faults sink.new) → ⊥) → result ≢ 6
-        → (text : List ℕ) × Tells (take max_checked input) text result
+        → (text : List ℕ) × Reports (take max_checked input) text result
         × Appends (O.written sink.old) (O.written sink.new) text) }
     ensures usage { IsNoForm (map string_bytes words.now)
         → (Rose (O.faults sink.old) (O.faults sink.new) → ⊥) → (result ≡ 1)

@@ -47,10 +47,7 @@ fn session_units(words: &[String]) -> Option<u64>
     ensures none { IfNone result ((n : ℕ) → IsSessionForm (map string_bytes words.now) n → ⊥) }
 {
     match words {
-        [form, number] if is_session(form.as_bytes()) => match units_in(number.as_bytes()) {
-            Some(n) => Some(n),
-            None => None,
-        },
+        [form, number] if is_session(form.as_bytes()) => units_in(number.as_bytes()),
         _ => None,
     }
 }
@@ -73,8 +70,7 @@ pub fn form_of(words: &[String]) -> Option<Form>
     if are_check(words) {
         return Some(Form::Check);
     }
-    match session_units(words) {
-        Some(units) => Some(Form::Session { units }),
-        None => None,
-    }
+    Some(Form::Session {
+        units: session_units(words)?,
+    })
 }

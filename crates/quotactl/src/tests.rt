@@ -51,7 +51,7 @@ fn plain<'a>(words: &'a [&'a str], input: &'a [u8]) -> Run<'a> {
 type Row = (&'static [u8], &'static [u8], u8);
 
 /// Sessions of an account with 512 units of storage.
-static SESSIONS: [Row; 30] = [
+static SESSIONS: [Row; 35] = [
     (
         b"a1 GETQUOTA \"\"\r\na2 LOGOUT\r\n",
         b"* PREAUTH quotad ready\r\n* QUOTA \"\" (STORAGE 0 512)\r\na1 OK GETQUOTA completed\r\n* BYE quotad closing\r\na2 OK LOGOUT completed\r\n",
@@ -74,19 +74,43 @@ static SESSIONS: [Row; 30] = [
         0,
     ),
     (b"a1 GETQUOTA \"\"", b"* PREAUTH quotad ready\r\n", 3),
+    (b"\n", b"* PREAUTH quotad ready\r\n* BAD Invalid tag\r\n", 0),
     (
-        b"\n",
-        b"* PREAUTH quotad ready\r\n* BAD Not built yet\r\n",
+        b"a1 NOOP\r\na2 CAPABILITY\r\na3 LOGIN main pw\r\na4 LOGOUT\r\n",
+        b"* PREAUTH quotad ready\r\na1 OK NOOP completed\r\n* CAPABILITY IMAP4rev1 QUOTA QUOTASET QUOTA=RES-STORAGE QUOTA=RES-MESSAGE STATUS=SIZE\r\na2 OK CAPABILITY completed\r\na3 BAD Already authenticated\r\n* BYE quotad closing\r\na4 OK LOGOUT completed\r\n",
+        0,
+    ),
+    // Messages, and a message that is cut short.
+    (
+        b"a1 APPEND INBOX {3}\r\nabc\r\na2 STATUS inbox (MESSAGES SIZE)\r\n",
+        b"* PREAUTH quotad ready\r\n+ Ready\r\na1 OK APPEND completed\r\n* STATUS INBOX (MESSAGES 1 SIZE 3)\r\na2 OK STATUS completed\r\n",
         0,
     ),
     (
-        b"a1 NOOP\r\na2 LOGOUT\r\n",
-        b"* PREAUTH quotad ready\r\n* BAD Not built yet\r\n* BYE quotad closing\r\na2 OK LOGOUT completed\r\n",
+        b"a1 APPEND INBOX {5}\r\nabc",
+        b"* PREAUTH quotad ready\r\n+ Ready\r\n",
+        3,
+    ),
+    // Names as literals.
+    (
+        b"a1 GETQUOTA {0}\r\n\r\n",
+        b"* PREAUTH quotad ready\r\n+ Ready\r\n* QUOTA \"\" (STORAGE 0 512)\r\na1 OK GETQUOTA completed\r\n",
         0,
     ),
     (
-        b"a1 APPEND INBOX {3}\r\nabc\r\n",
-        b"* PREAUTH quotad ready\r\n* BAD Not built yet\r\n* BAD Not built yet\r\n",
+        b"a1 SETQUOTA {0}\n (STORAGE 3)\na2 GETQUOTA {1}\r\nx\r\n",
+        b"* PREAUTH quotad ready\r\n+ Ready\r\n* QUOTA \"\" (STORAGE 0 3)\r\na1 OK SETQUOTA completed\r\n+ Ready\r\na2 NO No such quota root\r\n",
+        0,
+    ),
+    // What is no command.
+    (
+        b"a1 GETQUOTA\r\na2 NOOP x\r\na3 FETCH 1\r\na4\r\n+ NOOP\r\n",
+        b"* PREAUTH quotad ready\r\na1 BAD Syntax error at 11\r\na2 BAD Syntax error at 7\r\na3 BAD Unknown command\r\n* BAD Invalid tag\r\n* BAD Invalid tag\r\n",
+        0,
+    ),
+    (
+        b"a1 GETQUOTA \"{5}\r\na2 GETQUOTA {16384}\r\na3 NOOP\r\n",
+        b"* PREAUTH quotad ready\r\na1 BAD Syntax error at 16\r\na2 BAD Literal too large\r\na3 OK NOOP completed\r\n",
         0,
     ),
     // SETQUOTA replaces all limits.
@@ -277,7 +301,7 @@ type Parts = &'static [(&'static [u8], usize)];
 type LongRow = (Parts, Parts, u8);
 
 /// Names, lines and a history at their limits.
-static LONG_SESSIONS: [LongRow; 17] = [
+static LONG_SESSIONS: [LongRow; 22] = [
     // A name of more than 255 bytes makes no call.
     (
         &[(b"a GETQUOTA ", 1), (b"x", 255), (b"\n", 1)],
@@ -381,11 +405,59 @@ static LONG_SESSIONS: [LongRow; 17] = [
         ],
         0,
     ),
+    // So do STATUS and APPEND, which reads its message first.
+    (
+        &[
+            (b"a STATUS ", 1),
+            (b"x", 256),
+            (b" (SIZE)\nb STATUS ", 1),
+            (b"x", 256),
+            (b" (X)\n", 1),
+        ],
+        &[(
+            b"* PREAUTH quotad ready\r\na NO No such mailbox\r\nb NO Status item not supported\r\n",
+            1,
+        )],
+        0,
+    ),
+    (
+        &[(b"a APPEND ", 1), (b"x", 256), (b" {1}\ny\nb NOOP\n", 1)],
+        &[
+            (b"* PREAUTH quotad ready\r\n+ Ready\r\n", 1),
+            (
+                b"a NO [TRYCREATE] No such mailbox\r\nb OK NOOP completed\r\n",
+                1,
+            ),
+        ],
+        0,
+    ),
+    // A literal may make a command's text 16384 bytes long, and then the text has no end.
+    (
+        &[(b"a GETQUOTA {16364}\r\n", 1), (b"x", 16363)],
+        &[(b"* PREAUTH quotad ready\r\n+ Ready\r\n", 1)],
+        3,
+    ),
+    (
+        &[(b"a GETQUOTA {16364}\r\n", 1), (b"x", 16364)],
+        &[(
+            b"* PREAUTH quotad ready\r\n+ Ready\r\n* BYE Command too long\r\n",
+            1,
+        )],
+        0,
+    ),
+    (
+        &[(b"a GETQUOTA {16365}\r\nb NOOP\r\n", 1)],
+        &[(
+            b"* PREAUTH quotad ready\r\na BAD Literal too large\r\nb OK NOOP completed\r\n",
+            1,
+        )],
+        0,
+    ),
     // A line has at most 16384 bytes.
     (&[(b"x", 16383)], &[(b"* PREAUTH quotad ready\r\n", 1)], 3),
     (
         &[(b"x", 16383), (b"\n", 1)],
-        &[(b"* PREAUTH quotad ready\r\n* BAD Not built yet\r\n", 1)],
+        &[(b"* PREAUTH quotad ready\r\n* BAD Invalid tag\r\n", 1)],
         0,
     ),
     (
@@ -399,6 +471,27 @@ static LONG_SESSIONS: [LongRow; 17] = [
         0,
     ),
 ];
+
+/// Sessions of an account with one unit of storage: messages up to its limit, and beyond.
+static SMALL_SESSIONS: [LongRow; 1] = [(
+    &[
+        (b"a1 APPEND INBOX {1024}\r\n", 1),
+        (b"x", 1024),
+        (b"\r\na2 APPEND INBOX {1}\r\nx\r\na3 GETQUOTA \"\"\r\n", 1),
+    ],
+    &[
+        (
+            b"* PREAUTH quotad ready\r\n+ Ready\r\na1 OK APPEND completed\r\n",
+            1,
+        ),
+        (b"+ Ready\r\na2 NO [OVERQUOTA] Quota exceeded\r\n", 1),
+        (
+            b"* QUOTA \"\" (STORAGE 1 1)\r\na3 OK GETQUOTA completed\r\n",
+            1,
+        ),
+    ],
+    0,
+)];
 
 /// Ledgers at their limits.
 static LONG_LEDGERS: [LongRow; 3] = [
@@ -464,8 +557,9 @@ fn inputs_are_answered(rt: HostRuntime) -> Result<(), Fail> {
 
 #[test]
 fn limits_of_length_are_kept(rt: HostRuntime) -> Result<(), Fail> {
-    let tables: [(&[&str], &[u64], &[LongRow]); 3] = [
+    let tables: [(&[&str], &[u64], &[LongRow]); 4] = [
         (&["session", "512"], &[], LONG_SESSIONS.as_slice()),
+        (&["session", "1"], &[], SMALL_SESSIONS.as_slice()),
         (&["check"], &[], LONG_LEDGERS.as_slice()),
         (&["check"], &[17, 18], CUT_LEDGERS.as_slice()),
     ];

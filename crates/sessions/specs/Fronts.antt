@@ -5,11 +5,10 @@ use Rattle.wire_io.specs.Protocol.{Protocol}
 use Rattle.wire_io.specs.Serving.{IsSession}
 use Rattle.accounts_file.specs.Hosts.{Hosts}
 use Rattle.account_core.specs.History.{Answer}
-use Rattle.desk.specs.Shares.{Share}
 use Rattle.desk.specs.Asking.{DeskCall}
-use Rattle.desk.specs.Logs.{IsLog}
+use Rattle.imap_grammar.specs.Requests.{Request}
 use Rattle.imap_front.specs.Texts.{greeting}
-use Rattle.imap_front.specs.Imap.{Request, imap}
+use Rattle.imap_front.specs.Imap.{imap}
 use Rattle.imap_front.specs.Serving.{input_limit}
 use Rattle.sessions.specs.declared.front.Front.{Front}
 use Rattle.sessions.specs.declared.front.Front.TheVariants.{Imap, ImapAs}
@@ -29,9 +28,10 @@ protocol_of hosts Imap = imap hosts
 protocol_of hosts (ImapAs account) = imap hosts
 
 -- The bytes that left the source, the calls on the desk with their answers, the bytes that the sink
--- gained and the end are a session of the front.
-abbrev pub IsSessionOf : Hosts → Front → (shares shares' : List Share)
+-- gained and the end are a session of the front. `Logs` says of the calls what they did to the
+-- desk.
+abbrev pub IsSessionOf : Hosts → Front → (Logs : List (DeskCall × Answer) → Type 0)
     → (left left' written written' : Option (List ℕ)) → SessionEnd → Type 0
-IsSessionOf hosts front shares shares' left left' written written' end =
-    IsSession (protocol_of hosts front) (greeting_of front) (start_of front) input_limit
-    (IsLog shares shares') left left' written written' end
+IsSessionOf hosts front Logs left left' written written' end =
+    IsSession (protocol_of hosts front) (greeting_of front) (start_of front) input_limit Logs
+    left left' written written' end

@@ -1,7 +1,9 @@
 // A session of any front.
 ghost use Rattle.std.specs.Prelude.{◌≡◌, ◌≢◌, ◌⊎◌, IfSome};
-ghost use Rattle.quota_units.specs.Causes.{Rose};
+ghost use Rattle.quota_units.specs.Causes.{HasCause, Rose};
 ghost use Rattle.wire_io.specs.Session.{EndsAsDecided};
+ghost use Rattle.desk.specs.Logs.{IsLog, IsRepliedLog};
+ghost use Rattle.desk.specs.Shares.{HaveNoFailure};
 ghost use Rattle.imap_front.specs.Serving.{input_limit, IsDeskOf, IsLogin};
 ghost use Rattle.sessions.specs.Fronts.{start_of, protocol_of, IsSessionOf};
 
@@ -29,7 +31,14 @@ pub fn run_session<S: Source, O: Sink, D: Desk>(
 
     // What is written answers what is read. Each reply is the account machine's, at its call's
     // place in the account's history.
-    ensures session { IsSessionOf table.now front (D.shares desk.old) (D.shares desk.new)
+    ensures session { IsSessionOf table.now front
+        (IsLog (D.shares desk.old) (D.shares desk.new))
+        (S.left source.old) (S.left source.new) (O.written sink.old) (O.written sink.new) result }
+
+    // If no entry that the desk has seen by the end has fault, and no history is full then, each
+    // call of the session got the account machine's own reply.
+    ensures replied { HaveNoFailure (D.shares desk.new) → IsSessionOf table.now front
+        (IsRepliedLog (D.shares desk.old) (D.shares desk.new))
         (S.left source.old) (S.left source.new) (O.written sink.old) (O.written sink.new) result }
 
     // The session keeps of the desk what each call keeps.
@@ -37,12 +46,10 @@ pub fn run_session<S: Source, O: Sink, D: Desk>(
 
     // The end is `ReadFault` if a read failed, and `WriteFault` if a write failed. No other failure
     // is counted.
-    ensures read_fault { result ≡ SessionEnd.ReadFault
-        → Rose (S.faults source.old) (S.faults source.new) }
-    ensures read_kept { result ≢ SessionEnd.ReadFault → S.faults source.new ≡ S.faults source.old }
-    ensures write_fault { result ≡ SessionEnd.WriteFault
-        → Rose (O.faults sink.old) (O.faults sink.new) }
-    ensures write_kept { result ≢ SessionEnd.WriteFault → O.faults sink.new ≡ O.faults sink.old }
+    ensures read_cause { HasCause (result ≡ SessionEnd.ReadFault)
+        (S.faults source.old) (S.faults source.new) }
+    ensures write_cause { HasCause (result ≡ SessionEnd.WriteFault)
+        (O.faults sink.old) (O.faults sink.new) }
 
     // The input decides an end. The session has that end unless something failed or memory ran out.
     ensures decided { IfSome (S.left source.old) (λ input.

@@ -1,5 +1,5 @@
 -- What the owner's desk says of each of its accounts, in the words of the headline.
-use Rattle.std.proofs.Common.{◌≡◌, ◌<◌, ℕ, zero, suc, List, [], ◌∷◌, length, Option, Some, None, IfSome, sym, subst, arith}
+use Rattle.std.proofs.Common.{◌≡◌, ◌<◌, ℕ, zero, suc, List, [], ◌∷◌, length, map, Option, Some, None, IfSome, sym, subst, arith}
 use Rattle.std.specs.List.{All, slice_get}
 use Rattle.keeper.specs.Calls.{Told}
 use Rattle.keeper.specs.Files.{ledger_at}
@@ -12,9 +12,11 @@ use Rattle.account_ledger.specs.States.{State, IsAccount}
 use Rattle.account_ledger.specs.Stores.{Agree, fresh_scan, standing_at}
 use Rattle.accounts_file.specs.declared.entry.AccountEntry.{AccountEntry}
 use Rattle.accounts_file.specs.Hosts.{Hosts}
-use Rattle.desk.specs.Shares.{share_at}
+use Rattle.desk.specs.Shares.{HaveNoFailure, share_at}
 use Rattle.imap_front.specs.Serving.{IsDeskOf, IsOpenedAs}
+use Rattle.plain_desk.specs.Continuing.{EachContinues, HasNoneDue, HasRoom}
 use Rattle.plain_desk.specs.Owning.{AreOwned, IsOwned, share_of}
+use Rattle.plain_desk.proofs.Asked.{none_due_no_failures}
 use Rattle.tests_of_desks.specs.Headline.{HasFreshSums, HasLegalHistory}
 
 pub legal_each : (states : List State) → AreOwned states → All HasLegalHistory states
@@ -32,6 +34,26 @@ fresh_one s owned account is = by s.store.told (owned.order.agrees account is)
 
 pub fresh_each : (states : List State) → AreOwned states → All HasFreshSums states
 fresh_each states owned k d lt = fresh_one _ (owned.each k d lt)
+
+pub no_failures : (states states' : List State) → EachContinues states states' → AreOwned states' → All HasNoneDue states → All HasRoom states'
+    → HaveNoFailure (map share_of states')
+no_failures states states' continues owned none room = none_due_no_failures states states' continues owned none room
+
+-- a desk of one account fits its table
+pub one_fits : (hosts : Hosts) (a : State) → length hosts.accounts ≡ 1
+    → ((entry : AccountEntry) → slice_get hosts.accounts 0 ≡ Some entry → IsOpenedAs entry hosts.epoch (share_of a))
+    → IsDeskOf hosts (share_of a ∷ [])
+one_fits hosts a one first = record { count = sym one; each = each }
+  where
+    past : (xs : List AccountEntry) (k : ℕ) (entry : AccountEntry) → length xs ≡ 1 → slice_get xs (suc k) ≡ Some entry → ⊥
+    past [] k entry e is = cc
+    past (x ∷ []) k entry e is = cc
+    past (x ∷ y ∷ xs) k entry e is = omega (arith, e)
+
+    each : (account : ℕ) (entry : AccountEntry) → slice_get hosts.accounts account ≡ Some entry
+        → IsOpenedAs entry hosts.epoch (share_at (share_of a ∷ []) account)
+    each zero entry is = first entry is
+    each (suc k) entry is = absurd (past hosts.accounts k entry one is)
 
 -- a desk of three accounts fits their table
 pub three_fit : (hosts : Hosts) (a b c : State) → length hosts.accounts ≡ 3

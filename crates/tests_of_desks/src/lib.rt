@@ -6,6 +6,10 @@ mod calls;
 #[cfg(test)]
 mod headline;
 #[cfg(test)]
+mod one_account;
+#[cfg(test)]
+mod opening;
+#[cfg(test)]
 mod plain;
 #[cfg(test)]
 mod three_accounts;

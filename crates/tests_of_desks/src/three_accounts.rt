@@ -1,12 +1,11 @@
 // Sessions over a desk of three accounts.
-ghost use Rattle.std.specs.Prelude.{◌≡◌, ◌<◌, ℕ, length, map, slice_get, Some, IfOk, IfSome};
-ghost use Rattle.accounts_file.specs.declared.entry.AccountEntry.{AccountEntry};
-ghost use Rattle.imap_front.specs.Serving.{IsDeskOf, IsOpenedAs};
-ghost use Rattle.plain_desk.specs.Owning.{IsFresh, share_of};
+ghost use Rattle.std.specs.Prelude.{◌≡◌, ◌<◌, length, map, IfOk, IfSome};
+ghost use Rattle.imap_front.specs.Serving.{IsDeskOf};
+ghost use Rattle.plain_desk.specs.Owning.{share_of};
 ghost use Rattle.sessions.specs.Fronts.{start_of};
 
 use crate::headline::session_of_the_owner;
-use account_ledger::AccountState;
+use crate::opening::open_account;
 use accounts_file::{HostTable, read_accounts};
 use keeper::FixedKeeper;
 use plain_desk::PlainDesk;
@@ -59,26 +58,6 @@ a1 BAD Not authenticated\r\n\
 a2 BAD Not authenticated\r\n\
 * BYE quotad closing\r\na3 OK LOGOUT completed\r\n";
 
-/// Opens the account of this number, over a keeper without files.
-fn open_account(
-    alloc: Global,
-    table: &HostTable,
-    account: u32,
-) -> Result<AccountState<FixedKeeper>, Fail>
-    requires { account < length table.now.accounts }
-    ensures fresh { IfOk result IsFresh }
-    ensures opened { IfOk result (λ state. (entry : AccountEntry)
-        → slice_get table.now.accounts account ≡ Some entry
-        → IsOpenedAs entry table.now.epoch (share_of state)) }
-{
-    let setup = table.entry(account).setup.copy(alloc)?;
-    let keeper = FixedKeeper::new(alloc)?;
-    match AccountState::open(alloc, keeper, setup, table.epoch()) {
-        Ok(state) => Ok(state),
-        Err(fault) => Err(fault.cause.into()),
-    }
-}
-
 /// The desk of the table's three accounts.
 fn open_desk(alloc: Global, table: &HostTable) -> Result<PlainDesk<FixedKeeper>, Fail>
     ensures desk { IfOk result (λ desk. IsDeskOf table.now (map share_of desk)) }
@@ -88,9 +67,9 @@ fn open_desk(alloc: Global, table: &HostTable) -> Result<PlainDesk<FixedKeeper>,
         return Err("not three accounts".into());
     }
     let mut states = Vec::new(alloc);
-    states.push(open_account(alloc, table, 0)?)?;
-    states.push(open_account(alloc, table, 1)?)?;
-    states.push(open_account(alloc, table, 2)?)?;
+    states.push(open_account(alloc, table, 0, FixedKeeper::new(alloc)?)?)?;
+    states.push(open_account(alloc, table, 1, FixedKeeper::new(alloc)?)?)?;
+    states.push(open_account(alloc, table, 2, FixedKeeper::new(alloc)?)?)?;
     Ok(PlainDesk::new(states))
 }
 

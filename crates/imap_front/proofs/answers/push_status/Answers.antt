@@ -1,0 +1,8 @@
+use Rattle.std.proofs.Common.{◌≡◌, ℕ, List, [], ◌++◌, OnOk, subst, sym}
+use Rattle.imap_front.proofs.AnswerTexts.{other_status}
+use Rattle.imap_front.proofs.answers.push_status.Goals as goal
+
+pub returns-in_default : goal.returns-in_default
+returns-in_default c =
+    subst (λ (l : List ℕ). OnOk c.push_tagged-in_default.result (c.push_tagged-in_default.new.out.items ≡ c.args.out.now.items ++ l))
+    (sym (other_status [] c.args.tag.now c.args.mailbox.now c.args.items.now c.args.reply.now c.in_default.not-NoMailbox c.in_default.not-Status)) c.push_tagged-in_default.ensures

@@ -1,0 +1,16 @@
+use Rattle.std.proofs.Common.{rules}
+use Rattle.imap_front.specs.Imap.{imap}
+use Rattle.imap_front.specs.Serving.{IsImapSession}
+use Rattle.desk.specs.Logs.{IsLog}
+use Rattle.imap_front.proofs.Leading.{session_replied}
+use Rattle.imap_front.proofs.session.run_imap.Goals as goal
+
+pub returns-clause-replied : goal.returns-clause-replied
+returns-clause-replied g c =
+    let left = g.S.Source.left in
+    let written = g.O.Sink.written in
+    let shares = g.D.Desk.shares c.args.desk.now in
+    let shares' = g.D.Desk.shares c.run_service.new.world in
+    let s : IsImapSession c.args.table.now c.args.as_account (IsLog shares shares')
+    (left c.args.source.now) (left c.run_service.new.source) (written c.args.sink.now) (written c.run_service.new.sink) c.run_service.result = search rules in
+    λ none. session_replied (imap c.args.table.now) _ _ _ shares shares' _ _ _ _ _ none s
