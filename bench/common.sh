@@ -39,6 +39,14 @@ need() {
   done
 }
 
+# Refuses what is not a whole number: NUMBER..
+need_numbers() {
+  local number
+  for number in "$@"; do
+    case $number in '' | *[!0-9]*) echo "not a number: $number" >&2; exit 64 ;; esac
+  done
+}
+
 # Makes the folder `$work`, which goes when the script ends.
 make_work() {
   work=$(mktemp -d)

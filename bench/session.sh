@@ -6,8 +6,9 @@ top=$(cd "$(dirname "$0")/.." && pwd)
 . "$top/bench/common.sh"
 need awk cat cmp date find mktemp seq /usr/bin/time
 need_current quotactl
-make_work
 lines=${1:-60000}
+need_numbers "$lines"
+make_work
 awk -v n="$lines" 'BEGIN { for (i = 0; i < n; i++) printf "a GETQUOTA \"\"\r\n" }' >"$work/input"
 {
   printf '* PREAUTH quotad ready\r\n'

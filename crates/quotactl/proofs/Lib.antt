@@ -1,3 +1,7 @@
 pub mod Alone
+pub mod Sessions
 pub mod Controlling
+pub mod Hosting
+pub mod Openings
+pub mod Outcomes
 pub mod LedgerChecks

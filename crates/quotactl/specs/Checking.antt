@@ -8,14 +8,11 @@ use Rattle.maildirsize.specs.declared.ledger_text.LedgerFault.{LedgerFault}
 use Rattle.maildirsize.specs.declared.ledger_text.LedgerFault.TheVariants.{TooLong, BadDefinition, BadLine, Torn}
 use Rattle.maildirsize.specs.Reading.{SumsUp, fault_of}
 use Rattle.maildirsize.specs.Written.{written_definition}
+use Rattle.quotactl.specs.Lines.{said}
 
 -- the most bytes that are read of a ledger
 abbrev pub max_checked : ℕ
 max_checked = 65536
-
--- a line of these words and then this value
-abbrev pub said : List ℕ → List ℕ → List ℕ
-said words value = words ++ (value ++ codes "\n")
 
 abbrev pub sums_text : (octets count : ℤ) → List ℕ
 sums_text octets count = said (codes "octets ") (signed_decimal octets)

@@ -1,5 +1,9 @@
+pub mod Lines
+pub mod Ends
 pub mod Plain
 pub mod Owner
 pub mod Words
 pub mod Checking
+pub mod Hosting
+pub mod Outcome
 pub mod Control

@@ -1,23 +1,64 @@
--- The account with its one owner, as a world. The world is the account's history, which only the
--- owner's calls change.
-use Rattle.std.specs.Prelude.{false, ℕ, Bool, nat_le, List, [], ◌∷◌, ◌++◌, length, if◌then◌else◌}
-use Rattle.wire_io.specs.Transcript.{Answers}
-use Rattle.quota_roots.specs.declared.root.RootSpec.{RootSpec}
-use Rattle.account_core.specs.declared.calls.Entry.{Entry}
+-- Accounts with one owner, as a world. The world is the owner's shares of the accounts, which only
+-- the owner's calls change.
+use Rattle.std.specs.Prelude.{◌≡◌, false, ℕ, Bool, nat_le, List, [], ◌∷◌, ◌++◌, length, set, Option, Some, unwrap_or, if◌then◌else◌}
+use Rattle.wire_io.specs.Transcript.{Answers, Transcript, transcript}
+use Rattle.account_core.specs.declared.calls.Call.{Call}
 use Rattle.account_core.specs.Account.{Account}
 use Rattle.account_core.specs.History.{Answer, replied, journal_full, reply, entry_of}
+use Rattle.account_core.specs.Legality.{fault_count}
+use Rattle.accounts_file.specs.Hosts.{Hosts}
 use Rattle.desk.specs.Asking.{DeskCall}
+use Rattle.desk.specs.Shares.{Share, mine, share_at}
+use Rattle.imap_front.specs.Imap.{imap}
+use Rattle.imap_front.specs.Serving.{input_limit}
 
-abbrev pub is_full : ℕ → List Entry → Bool
-is_full journal history = nat_le journal (length history)
-
--- The answer to a call after a history, and the history after the call, of an account with these
--- roots and this opening account. Each call becomes an entry until the journal is full.
-abbrev pub owner : List RootSpec → (journal : ℕ) → (opening : Account)
-    → Answers (List Entry) DeskCall Answer
-owner roots journal opening = record {
-  answer = λ history asked. if is_full journal history then journal_full
-      else replied (reply roots opening history asked.call);
-  after = λ history asked. if is_full journal history then history
-      else history ++ entry_of 0 asked.call false ∷ [];
+-- an account without mailboxes
+abbrev pub no_account : Account
+no_account = record {
+  limits = [];
+  mailboxes = [];
+  messages = [];
+  deliveries = 0;
+  epoch = 0;
+  generation = 0;
 }
+
+abbrev pub opening_in : Share → Account
+opening_in share = unwrap_or share.origin.account no_account
+
+abbrev pub is_full : Share → Bool
+is_full share = nat_le share.origin.journal (length share.seen)
+
+-- The answer to a call on the account of a share. Each call becomes an entry until the journal is
+-- full.
+abbrev pub answer_in : Share → Call → Answer
+answer_in share call = if is_full share then journal_full
+    else replied (reply share.origin.roots (opening_in share) share.seen call)
+
+-- the share after the call
+abbrev pub share_after : Share → Call → Share
+share_after share call = if is_full share then share
+    else record share { seen = share.seen ++ entry_of share.caller call false ∷ [] }
+
+abbrev pub owners : Answers (List Share) DeskCall Answer
+owners = record {
+  answer = λ shares asked. answer_in (share_at shares asked.account) asked.call;
+  after = λ shares asked. set shares asked.account
+      (share_after (share_at shares asked.account) asked.call);
+}
+
+-- the session that an input gives, of the owner of these shares; this account, or nobody, is logged
+-- in at the start
+abbrev pub session_over : Hosts → (start : Option ℕ) → List Share → List ℕ → Transcript
+session_over hosts start shares input =
+    transcript (imap hosts) owners input_limit start shares input
+
+-- the opening account is told
+pub record HasAccount (share : Share) : Type 0 where
+  pub account : Account
+  pub is_told : share.origin.account ≡ Some account
+
+-- the history has the owner's entries and no others, and no entry has fault
+pub record IsUndisturbed (share : Share) : Type 0 where
+  pub whole : mine share ≡ share.seen
+  pub no_fault : fault_count share.seen ≡ 0

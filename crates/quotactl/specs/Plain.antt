@@ -1,16 +1,15 @@
 -- The desk of the account that `session` serves: that of the table of one account, opened over a
 -- keeper without files.
-use Rattle.std.specs.Prelude.{◌≡◌, ◌+◌, ℕ, List, [], Option, Some}
+use Rattle.std.specs.Prelude.{◌≡◌, ◌+◌, [], Some}
 use Rattle.quota_units.specs.Limiting.{LimitNumbers}
 use Rattle.keeper.specs.Calls.{Told}
 use Rattle.keeper.specs.Files.{no_files}
 use Rattle.account_core.specs.Account.{Account}
 use Rattle.account_core.specs.Histories.{Origin}
-use Rattle.account_core.specs.Legality.{fault_count}
 use Rattle.account_ledger.specs.Opening.{opening_account}
 use Rattle.account_ledger.specs.States.{State}
 use Rattle.accounts_file.specs.Hosts.{plain_roots, plain_setup}
-use Rattle.desk.specs.Shares.{Share, mine}
+use Rattle.desk.specs.Shares.{Share}
 
 -- one root of the empty name, the mailboxes INBOX and Trash, and no message
 abbrev pub empty_account : LimitNumbers → Account
@@ -34,8 +33,3 @@ pub record NeverFails (s : State) : Type 0 where
   pub told : Told
   pub is_told : s.store.told ≡ Some told
   pub none : s.store.faults + s.store.append_faults + told.due ≡ 0
-
--- the history has the owner's entries and no others, and no entry has fault
-pub record IsUndisturbed (share : Share) : Type 0 where
-  pub whole : mine share ≡ share.seen
-  pub no_fault : fault_count share.seen ≡ 0

@@ -3,9 +3,11 @@ ghost use Rattle.std.specs.Prelude.{◌≡◌, ◌≢◌, ◌++◌, codes, OnOk,
 ghost use Rattle.quota_units.specs.Causes.{HasCause};
 ghost use Rattle.maildirsize.specs.Reading.{SumsUp, fault_of};
 ghost use Rattle.maildirsize.specs.Written.{written_definition};
-ghost use Rattle.quotactl.specs.Checking.{said, sums_text, values_text, fault_text, Reports, TakesLedger, TakesSome, ChecksLedger};
+ghost use Rattle.quotactl.specs.Lines.{said};
+ghost use Rattle.quotactl.specs.Checking.{sums_text, values_text, fault_text, Reports, TakesLedger, TakesSome, ChecksLedger};
 
-use itoa::{Buffer, Integer};
+use crate::lines::{push_number, push_said};
+use crate::status::{NO_MEMORY, WRITE_FAULT};
 use maildirsize::{LedgerFault, LedgerText, Text, print_definition, read_ledger};
 use quota_units::{Failed, Limits};
 use std::alloc::{AllocError, Global};
@@ -41,22 +43,6 @@ fn ledger_bytes<S: Source>(alloc: Global, source: &mut S) -> Result<Vec<u8>, Unr
         Err(FeedEnd::NoMemory) => Err(Unread::NoMemory),
         Err(FeedEnd::Limit) => unreachable!(),
     }
-}
-
-/// Appends a line of these words and then this value.
-fn push_said(out: &mut Vec<u8>, words: &[u8], value: &[u8]) -> Result<(), AllocError>
-    ensures { OnOk result (out.new.items ≡ out.old.items ++ said words.now value.now) }
-{
-    out.extend_from_slice(words)?;
-    out.extend_from_slice(value)?;
-    out.extend_from_slice(b"\n")
-}
-
-/// Appends a line of these words and then this number.
-fn push_number<I: Integer>(out: &mut Vec<u8>, words: &[u8], number: I) -> Result<(), AllocError>
-    ensures { OnOk result (out.new.items ≡ out.old.items ++ said words.now (I.text number)) }
-{
-    push_said(out, words, Buffer::new().format(number).as_bytes())
 }
 
 /// Appends the line of a ledger's definition, that is its limits as a ledger writes them.
@@ -144,13 +130,13 @@ pub fn check<S: Source, O: Sink>(alloc: Global, source: &mut S, sink: &mut O) ->
     let bytes = match ledger_bytes(alloc, source) {
         Ok(bytes) => bytes,
         Err(Unread::Fault) => return 4,
-        Err(Unread::NoMemory) => return 6,
+        Err(Unread::NoMemory) => return NO_MEMORY,
     };
     let Ok((text, status)) = reported(alloc, &bytes) else {
-        return 6;
+        return NO_MEMORY;
     };
     match send(sink, &text) {
         Ok(()) => status,
-        Err(Failed) => 5,
+        Err(Failed) => WRITE_FAULT,
     }
 }

@@ -1,43 +1,24 @@
-// The program over its arguments, its source and its sink.
-ghost use Rattle.std.specs.Prelude.{◌≡◌, ◌≢◌, ◌<◌, ◌≤◌, ◌↔◌, ◌++◌, ℕ, List, take, map, IfSome};
+// The program over its arguments, an accounts file, stores, a source and a sink.
+ghost use Rattle.std.specs.Prelude.{◌≡◌, ◌≤◌, ◌<◌, ℕ, List, [], ◌∷◌, map, take, codes, Option, Some, IfSome};
 ghost use Rattle.std.specs.String.{string_bytes};
 ghost use Rattle.std.specs.Io.KnownBytes.{Appends};
 ghost use Rattle.quota_units.specs.Causes.{HasCause, Rose};
-ghost use Rattle.imap_front.specs.Texts.{greeting};
-ghost use Rattle.quotactl.specs.Words.{IsForm, IsNoForm};
+ghost use Rattle.quotactl.specs.Words.{IsSessionForm, IsImapForm, IsNoForm};
 ghost use Rattle.quotactl.specs.Checking.{Reports, max_checked};
-ghost use Rattle.quotactl.specs.Control.{Runs, Controls, exit_status, usage_line, session_of};
+ghost use Rattle.quotactl.specs.Outcome.{HasOutcome, HaveNoneDue, IsUnbroken, file_outcome, session_outcome, usage_outcome};
+ghost use Rattle.quotactl.specs.Control.{Runs, Controls, hosts_with, fresh};
 
+use crate::accounts::serve_file;
 use crate::check::check;
 use crate::form::{Form, form_of};
+use crate::lines::refuse_words;
 use crate::plain::open_desk;
-use quota_units::{Failed, Limits, NoMemory};
+use crate::status::{NO_MEMORY, status};
+use keeper::Stores;
+use quota_units::{Limits, NoMemory};
 use sessions::{Front, run_session};
 use std::alloc::Global;
-use wire_io::{SessionEnd, Sink, Source, send};
-
-/// What the program writes for unrecognised arguments.
-const USAGE: &[u8] =
-    b"usage: quotactl session N | imap [ACCOUNT] | jmap | policy | recalc ACCOUNT | check | workload N\n";
-
-/// The exit status if memory runs out.
-const NO_MEMORY: u8 = 6;
-
-/// The exit status of the program after a session.
-fn status(end: SessionEnd) -> u8
-    ensures value { result ≡ exit_status end }
-    ensures read { (result ≡ 4) ↔ (end ≡ SessionEnd.ReadFault) }
-    ensures write { (result ≡ 5) ↔ (end ≡ SessionEnd.WriteFault) }
-{
-    match end {
-        SessionEnd::Closed | SessionEnd::Stopped => 0,
-        SessionEnd::Truncated { .. } => 3,
-        SessionEnd::ReadFault => 4,
-        SessionEnd::WriteFault => 5,
-        SessionEnd::NoMemory => NO_MEMORY,
-        SessionEnd::InputLimit => 11,
-    }
-}
+use wire_io::{Sink, Source};
 
 /// Serves a session of an account with this many 1024-octet units of storage, and returns the exit
 /// status.
@@ -62,49 +43,83 @@ fn run<S: Source, O: Sink>(alloc: Global, units: u64, source: &mut S, sink: &mut
     }
 }
 
-/// Runs `quotactl` with these arguments, over a source and a sink, and returns the exit status.
+/// Runs `quotactl` with these arguments, over an accounts file, stores, a source and a sink, and
+/// returns the exit status.
 ///
 /// `words` are the arguments after the program's name. `session N` serves a session of IMAP for the
 /// owner of an account with N units of storage of 1024 octets; N is from 1 to 8796093022207, in
-/// decimal digits with no leading zero. `check` says what a ledger holds. For any other arguments
-/// the program writes the usage line, and the status is 1, or 5 if a write fails.
-pub fn control<S: Source, O: Sink>(
+/// decimal digits with no leading zero. `imap` serves a session of IMAP over the accounts of the
+/// accounts file, and `imap ACCOUNT` one in which the owner of that account is logged in at the
+/// start. `accounts` are the bytes of the file, `stores` have the accounts' mailboxes and ledgers,
+/// and `epoch` is the second in which they are opened. `check` says what a ledger holds. For any
+/// other arguments the program writes the usage line.
+///
+/// The status is 0 after a session that closed and after `check` of a ledger that can be read, 1 if
+/// the arguments are unrecognised, 2 if the accounts file is refused, 3 if the input ended inside a
+/// request or the ledger can't be read, 4 if a read failed, 5 if a write failed, 6 if memory ran
+/// out, 7 if the store of an account failed at its opening, 8 if no account has the name, 11 if the
+/// session took 1073741824 bytes, 12 if the epoch was used, 13 if a name occurs twice in a mailbox,
+/// and 14 if an account has more than 1048576 messages.
+pub fn control<S: Source, O: Sink, M: Stores>(
     alloc: Global,
     words: &[String],
+    accounts: &[u8],
+    stores: &mut M,
+    epoch: u64,
     source: &mut S,
     sink: &mut O,
 ) -> u8
+where
+    M::K: Drop,
     // The program does what the arguments say. If they are unrecognised, it writes the usage line.
-    ensures controls { Controls (map string_bytes words.now) (S.left source.old) (S.left source.new)
-        (O.written sink.old) (O.written sink.new) result }
+    ensures controls { Controls M.K.told M.K.faults M.K.append_faults M.K.lists
+        (map string_bytes words.now) accounts.now epoch (M.told stores.old) (M.told stores.new)
+        (S.left source.old) (S.left source.new) (O.written sink.old) (O.written sink.new) result }
+
+    // Only `imap` uses the stores.
+    ensures untouched { ((account : Option (List ℕ))
+        → IsImapForm (map string_bytes words.now) account → ⊥) → stores.new ≡ stores.old }
 
     // Status 4 means that a read failed, and status 5 that a write failed. No other failure is
-    // counted.
+    // counted. Status 7 means that the stores failed.
     ensures read_cause { HasCause (result ≡ 4) (S.faults source.old) (S.faults source.new) }
     ensures write_cause { HasCause (result ≡ 5) (O.faults sink.old) (O.faults sink.new) }
+    ensures store_cause { result ≡ 7 → Rose (M.faults stores.old) (M.faults stores.new) }
+    ensures store_later { M.faults stores.old ≤ M.faults stores.new }
 
-    // If nothing failed and memory did not run out, the arguments and the input decide the status
-    // and all that is written.
-    ensures output { (n : ℕ) → IsForm (map string_bytes words.now) (Form.Session n)
-        → IfSome (S.left source.old) (λ input. (Rose (S.faults source.old) (S.faults source.new)
-        → ⊥) → (Rose (O.faults sink.old) (O.faults sink.new) → ⊥) → result ≢ 6
-        → (result ≡ exit_status (session_of n input).end) × Appends (O.written sink.old)
-        (O.written sink.new) (greeting (Some 0) ++ (session_of n input).text)) }
-    ensures checked { IsForm (map string_bytes words.now) Form.Check
-        → IfSome (S.left source.old) (λ input. (Rose (S.faults source.old) (S.faults source.new)
-        → ⊥) → (Rose (O.faults sink.old) (O.faults sink.new) → ⊥) → result ≢ 6
+    // If nothing failed and memory did not run out, the status and all that is written depend on
+    // the arguments, the accounts file, the epoch, the files of the accounts and the input alone.
+    ensures session_output { (n : ℕ) → IsSessionForm (map string_bytes words.now) n
+        → IfSome (S.left source.old) (λ input. IsUnbroken
+        (Rose (S.faults source.old) (S.faults source.new))
+        (Rose (O.faults sink.old) (O.faults sink.new)) result
+        → HasOutcome (O.written sink.old) (O.written sink.new) result
+        (session_outcome (hosts_with n) (Some 0) (fresh n) input)) }
+    ensures accounts_output { (account : Option (List ℕ))
+        → IsImapForm (map string_bytes words.now) account
+        → IfSome (M.told stores.old) (λ told. HaveNoneDue M.K.told told
+        → (Rose (M.faults stores.old) (M.faults stores.new) → ⊥)
+        → IfSome (S.left source.old) (λ input. IsUnbroken
+        (Rose (S.faults source.old) (S.faults source.new))
+        (Rose (O.faults sink.old) (O.faults sink.new)) result
+        → HasOutcome (O.written sink.old) (O.written sink.new) result
+        (file_outcome M.K.told accounts.now epoch account told input))) }
+    ensures check_output { map string_bytes words.now ≡ codes "check" ∷ []
+        → IfSome (S.left source.old) (λ input. IsUnbroken
+        (Rose (S.faults source.old) (S.faults source.new))
+        (Rose (O.faults sink.old) (O.faults sink.new)) result
         → (text : List ℕ) × Reports (take max_checked input) text result
         × Appends (O.written sink.old) (O.written sink.new) text) }
-    ensures usage { IsNoForm (map string_bytes words.now)
-        → (Rose (O.faults sink.old) (O.faults sink.new) → ⊥) → (result ≡ 1)
-        × Appends (O.written sink.old) (O.written sink.new) usage_line }
+    ensures usage_output { IsNoForm (map string_bytes words.now)
+        → (Rose (O.faults sink.old) (O.faults sink.new) → ⊥)
+        → HasOutcome (O.written sink.old) (O.written sink.new) result usage_outcome }
 {
     match form_of(words) {
         Some(Form::Session { units }) => run(alloc, units, source, sink),
+        Some(Form::Imap { account }) => {
+            serve_file(alloc, account, accounts, stores, epoch, source, sink)
+        }
         Some(Form::Check) => check(alloc, source, sink),
-        None => match send(sink, USAGE) {
-            Ok(()) => 1,
-            Err(Failed) => 5,
-        },
+        None => refuse_words(sink),
     }
 }

@@ -1,5 +1,6 @@
 // The program over sources and sinks in memory.
 use crate::control::control;
+use keeper::MemStores;
 use std::alloc::Global;
 use std::test::Fail;
 use wire_io::{MemSink, MemSource};
@@ -32,7 +33,16 @@ fn outcome(alloc: Global, run: &Run) -> Result<(u8, Vec<u8>), Fail> {
         run.failing_reads.to_vec(alloc)?,
     );
     let mut sink = MemSink::new(alloc, piece, run.room, run.failing_writes.to_vec(alloc)?)?;
-    let status = control(alloc, words.as_slice(), &mut source, &mut sink);
+    let mut stores = MemStores::new(Vec::new(alloc));
+    let status = control(
+        alloc,
+        words.as_slice(),
+        &[],
+        &mut stores,
+        0,
+        &mut source,
+        &mut sink,
+    );
     Ok((status, sink.as_slice().to_vec(alloc)?))
 }
 
@@ -276,7 +286,7 @@ static LEDGERS: [Row; 16] = [
 ];
 
 /// Unrecognised arguments, among them units that are out of range.
-static NO_FORMS: [&[&str]; 15] = [
+static NO_FORMS: [&[&str]; 18] = [
     &["check", "5"],
     &["Check"],
     &["check", "check"],
@@ -290,7 +300,10 @@ static NO_FORMS: [&[&str]; 15] = [
     &["session"],
     &["session", "5", "5"],
     &["Session", "5"],
-    &["imap"],
+    &["Imap"],
+    &["imap", "-"],
+    &["imap", "-ann"],
+    &["imap", "ann", "ann"],
     &[],
 ];
 

@@ -13,3 +13,5 @@ mod opening;
 mod plain;
 #[cfg(test)]
 mod three_accounts;
+#[cfg(test)]
+mod watching;

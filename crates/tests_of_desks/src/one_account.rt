@@ -147,7 +147,7 @@ fn open_desk<K: Keeper + Drop>(
 
 /// Runs a session, of which the source gives at most `piece` bytes at a time, and checks what it
 /// writes and how it ends. It gives the account.
-fn account_after<K: Keeper + Drop>(
+pub(crate) fn account_after<K: Keeper + Drop>(
     alloc: Global,
     front: Front,
     table: &HostTable,
@@ -176,7 +176,7 @@ fn account_after<K: Keeper + Drop>(
 }
 
 /// IMAP, with the owner of the one account logged in or with nobody logged in.
-fn front_of(is_owner: bool) -> Front
+pub(crate) fn front_of(is_owner: bool) -> Front
     ensures { IfSome (start_of result) (λ account. account < 1) }
 {
     if is_owner {

@@ -6,8 +6,8 @@ use Rattle.plain_desk.specs.Owning.{share_of}
 use Rattle.desk.specs.Logs.{IsLog}
 use Rattle.imap_front.specs.Serving.{IsImapSession}
 use Rattle.quotactl.specs.Plain.{plain_share}
-use Rattle.quotactl.specs.Control.{served, fresh, hosts_of, units_of_storage}
-use Rattle.quotactl.proofs.Controlling.{all_undisturbed}
+use Rattle.quotactl.specs.Control.{served, fresh, hosts_with, units_of_storage}
+use Rattle.quotactl.proofs.Alone.{all_undisturbed}
 use Rattle.quotactl.proofs.control.run.Goals as goal
 
 pub returns-in-Ok-clause-runs : goal.returns-in-Ok-clause-runs
@@ -16,7 +16,7 @@ returns-in-Ok-clause-runs g c =
     let written = g.O.Sink.written in
     let n = c.args.units in
     let limits : c.in-Some.limits ≡ units_of_storage n = c.in-Some.ensures.value in
-    let table : c.in-Ok.table ≡ hosts_of n = c.in-Ok.ensures.table ∙ ap plain_hosts limits in
+    let table : c.in-Ok.table ≡ hosts_with n = c.in-Ok.ensures.table ∙ ap plain_hosts limits in
     let shares : map share_of c.in-Ok.desk ≡ fresh n = c.in-Ok.ensures.shares ∙ ap (λ (l : LimitNumbers). plain_share l ∷ []) limits in
     let shares' = map share_of c.run_session-end.new.desk in
     let s = c.run_session-end in
