@@ -7,7 +7,7 @@ ghost use Rattle.account_core.specs.History.{replied};
 use crate::quota_lines::{push_quota_root_line, push_root_line, push_root_lines};
 use crate::status_lines::{MailboxCounts, push_status_line};
 use crate::texts::{
-    APPENDED, NO_MAILBOX, NO_ROOT, OVER_QUOTA, TRY_CREATE, UNAVAILABLE, push_tagged,
+    ANSWER_ROOM, APPENDED, NO_MAILBOX, NO_ROOT, OVER_QUOTA, TRY_CREATE, UNAVAILABLE, push_tagged,
 };
 use account_core::Reply;
 use imap_grammar::StatusItem;
@@ -182,7 +182,7 @@ pub fn answer_to(
     ensures { IfOk result (λ text. text.items
         ≡ answer_text roots.now (kind_of kind.entry) tag.now (replied reply.now)) }
 {
-    let mut text = Vec::new(alloc);
+    let mut text = Vec::with_capacity(alloc, ANSWER_ROOM)?;
     push_answer(&mut text, roots, kind, tag, reply)?;
     Ok(text)
 }

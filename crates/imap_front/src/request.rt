@@ -1,6 +1,6 @@
 // Taking a request from a feed: lines of a command's text, octets of its literals, and the octets
 // of its message.
-ghost use Rattle.std.specs.Prelude.{◌≡◌, ◌≢◌, ◌≤◌, ◌++◌, List, ℕ, Option, length, is_some, IfOk, Ok};
+ghost use Rattle.std.specs.Prelude.{◌≡◌, ◌≢◌, ◌≤◌, ◌++◌, List, [], ℕ, Option, length, is_some, IfOk, Ok};
 ghost use Rattle.quota_units.specs.Causes.{HasCause};
 ghost use Rattle.wire_io.specs.Feeds.{source_of, source_name, waiting_of, taken_of, handed_of, limit_of};
 ghost use Rattle.imap_grammar.specs.declared.progress.Progress.TheVariants.{Message};
@@ -14,6 +14,10 @@ use imap_grammar::{Command, CommandFault, MAX_TEXT, Progress, read_progress};
 use quota_units::{Failed, NoMemory};
 use std::alloc::Global;
 use wire_io::{Feed, LineEnd, SessionEnd, Sink, Source, end_of, send};
+
+/// The room that the text of a command begins with, in bytes: most texts fit, so that they are not
+/// moved.
+const TEXT_ROOM: usize = 128;
 
 /// What is written before octets are read (RFC 9051, section 7.5).
 const READY: &[u8] = b"+ Ready\r\n";
@@ -140,6 +144,16 @@ fn take_message<S: Source, O: Sink>(
     }
 }
 
+/// An empty text, with room for most commands if there is memory for it.
+fn empty_text(alloc: Global) -> Vec<u8>
+    ensures items { result.items ≡ [] }
+{
+    match Vec::with_capacity(alloc, TEXT_ROOM) {
+        Ok(text) => text,
+        Err(_) => Vec::new(alloc),
+    }
+}
+
 /// Takes one request from the feed, and writes its prompts.
 ///
 /// # Errors
@@ -166,7 +180,7 @@ pub fn take_request<S: Source, O: Sink>(
         (O.faults sink.old) (O.faults sink.new) }
 {
     let at = feed.at();
-    let mut text = Vec::new(alloc);
+    let mut text = empty_text(alloc);
     loop {
         let room = MAX_TEXT - text.len();
         match feed.line(&mut text, room) {

@@ -8,6 +8,9 @@ use itoa::Buffer;
 use quota_units::NoMemory;
 use std::alloc::{AllocError, Global};
 
+/// The room that an answer begins with, in bytes: most answers fit, so that they are not moved.
+pub const ANSWER_ROOM: usize = 128;
+
 /// The first line of the session of an account's owner.
 const PREAUTHENTICATED: &[u8] = b"* PREAUTH quotad ready\r\n";
 
@@ -90,7 +93,7 @@ pub fn push_tagged(out: &mut Vec<u8>, tag: &[u8], words: &[u8]) -> Result<(), Al
 pub fn tagged(alloc: Global, tag: &[u8], words: &[u8]) -> Result<Vec<u8>, NoMemory>
     ensures { IfOk result (λ text. text.items ≡ tagged_line tag.now words.now) }
 {
-    let mut text = Vec::new(alloc);
+    let mut text = Vec::with_capacity(alloc, ANSWER_ROOM)?;
     push_tagged(&mut text, tag, words)?;
     Ok(text)
 }
@@ -99,7 +102,7 @@ pub fn tagged(alloc: Global, tag: &[u8], words: &[u8]) -> Result<Vec<u8>, NoMemo
 pub fn capability(alloc: Global, tag: &[u8]) -> Result<Vec<u8>, NoMemory>
     ensures { IfOk result (λ text. text.items ≡ capability_text tag.now) }
 {
-    let mut text = Vec::new(alloc);
+    let mut text = Vec::with_capacity(alloc, ANSWER_ROOM)?;
     text.extend_from_slice(CAPABILITIES)?;
     push_tagged(&mut text, tag, b"OK CAPABILITY completed")?;
     Ok(text)
@@ -109,7 +112,7 @@ pub fn capability(alloc: Global, tag: &[u8]) -> Result<Vec<u8>, NoMemory>
 pub fn logout(alloc: Global, tag: &[u8]) -> Result<Vec<u8>, NoMemory>
     ensures { IfOk result (λ text. text.items ≡ logout_text tag.now) }
 {
-    let mut text = Vec::new(alloc);
+    let mut text = Vec::with_capacity(alloc, ANSWER_ROOM)?;
     text.extend_from_slice(b"* BYE quotad closing\r\n")?;
     push_tagged(&mut text, tag, b"OK LOGOUT completed")?;
     Ok(text)

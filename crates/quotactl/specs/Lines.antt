@@ -14,8 +14,8 @@ abbrev pub said : List ℕ → List ℕ → List ℕ
 said words value = words ++ (value ++ codes "\n")
 
 abbrev pub usage_line : List ℕ
-usage_line = codes
-    "usage: quotactl session N | imap [ACCOUNT] | jmap | policy | recalc ACCOUNT | check | workload N\n"
+usage_line = codes "usage: quotactl session N | imap [ACCOUNT] | jmap | policy | recalc ACCOUNT"
+    ++ codes " | check | workload N\n"
 
 -- why an accounts file is refused; nothing is said if memory runs out
 abbrev pub file_line : AccountsError → List ℕ

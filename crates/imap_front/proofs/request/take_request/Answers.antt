@@ -15,10 +15,10 @@ use Rattle.imap_front.proofs.request.take_request.Goals as goal
 
 pub loop-text-init : goal.loop-text-init
 loop-text-init g c =
-    let none = c.new-text.ensures.items in
+    let none = c.empty_text-text.ensures.items in
     record {
       said = [];
-      moves = moves_begun _ _ _ _ _ c.new-text.result.items none;
+      moves = moves_begun _ _ _ _ _ c.empty_text-text.result.items none;
       awaits = subst (λ t. AwaitsLine (is_some c.args.login) t []) (sym none) (start (is_some c.args.login));
       same_source = refl;
       same_limit = refl;
