@@ -1,5 +1,5 @@
 // Settling roots in doubt.
-ghost use Rattle.std.specs.Prelude.{◌≡◌, ◌<◌, ◌≤◌, ℕ, true, length, nat_eq, IfSome, OnOk, OnErr, IsErr, IsErrOf, All};
+ghost use Rattle.std.specs.Prelude.{◌≡◌, ◌<◌, ◌≤◌, ℕ, true, false, length, nat_eq, IfSome, OnOk, OnErr, IsErr, IsErrOf, All};
 ghost use Rattle.quota_units.specs.Causes.{HasCause};
 ghost use Rattle.quota_units.specs.Sums.{AreSmall};
 ghost use Rattle.quota_roots.specs.RootSets.{has_root};
@@ -8,7 +8,7 @@ ghost use Rattle.root_ledgers.specs.declared.book.Standing.TheVariants.{Settled,
 ghost use Rattle.root_ledgers.specs.Scans.{scan};
 ghost use Rattle.root_ledgers.specs.Settling.{Settling, Marks, Spared, StaysInDoubt, book_at, kept_of, AreSmallBooks};
 
-use crate::book::Book;
+use crate::book::{Book, Standing};
 use crate::folding::install_folded;
 use crate::scans::scan_each;
 use keeper::{KeepError, Keeper};
@@ -58,6 +58,20 @@ fn settle_by<K: Keeper>(
     Ok(())
 }
 
+/// Whether a root of the set is in doubt.
+fn has_doubt(roots: &Roots, books: &[Book], set: RootSet) -> bool
+    requires { length books.now ≡ length roots.now }
+    ensures none { result ≡ false → (root : ℕ) → root < length roots.now
+        → has_root set root ≡ true → (book_at books.now root).standing ≡ Settled }
+{
+    for root in 0..roots.count() {
+        if set.has(root) && books[root as usize].standing == Standing::Doubt {
+            return true;
+        }
+    }
+    false
+}
+
 /// Settles, by a fresh scan, each root of the set that is in doubt. All memory is taken before a
 /// ledger is changed.
 ///
@@ -94,6 +108,9 @@ pub(crate) fn settle<K: Keeper>(
         keeper.old keeper.new }
     ensures appends { K.append_faults keeper.new ≡ K.append_faults keeper.old }
 {
+    if !has_doubt(roots, books, set) {
+        return Ok(());
+    }
     let scans = scan_each(alloc, keeper, roots, mailboxes, books, set)?;
     for root in 0..roots.count() {
         if let Some(totals) = scans[root as usize] {

@@ -14,7 +14,7 @@ returns-in_err-settle_by-clause-files g c =
     let limits = c.args.limits.now in
     let may = has_root c.args.set in
     let root = c.loop-root.root in
-    let scanned = scan_here may (length roots) c.args.books.now.items c.in_ok-scans.scans.items root c.index.result.now (rw c.deref.ensures.value at c.in_ok-scans.ensures.scans) (omega (arith, c.count-root-end.ensures.value)) c.index.ensures in
+    let scanned = scan_here may (length roots) c.args.books.now.items c.in_ok-scans.scans.items root c.index.result.now (rw c.deref-2.ensures.value at c.in_ok-scans.ensures.scans) (omega (arith, c.count-root-end.ensures.value)) c.index.ensures in
     settles_then may (nat_eq root) (only_one may root (wanted_may (may root) _ _ c.in-Some.totals scanned c.in-Some.is).0) roots boxes limits
     c.args.books.now.items c.loop-root.books.items c.settle_by.new.books.items _ _ _ c.loop-root.invariant.files c.settle_by.ensures.files
 
@@ -25,7 +25,7 @@ loop-root-preserved g c =
     let limits = c.args.limits.now in
     let may = has_root c.args.set in
     let root = c.loop-root.root in
-    let scanned = scan_here may (length roots) c.args.books.now.items c.in_ok-scans.scans.items root c.index.result.now (rw c.deref.ensures.value at c.in_ok-scans.ensures.scans) (omega (arith, c.count-root-end.ensures.value)) c.index.ensures in
+    let scanned = scan_here may (length roots) c.args.books.now.items c.in_ok-scans.scans.items root c.index.result.now (rw c.deref-2.ensures.value at c.in_ok-scans.ensures.scans) (omega (arith, c.count-root-end.ensures.value)) c.index.ensures in
     let before = c.loop-root.invariant in
     elim c.match-index.branch [
       | in-Some+in_ok-settle_by w ↦
