@@ -119,6 +119,7 @@ fn ended(command: Command, text: &[u8]) -> Result<(Command, &[u8]), Stop>
 }
 
 /// What follows a command's word: all of it, or up to the message's marker.
+#[inline(always)]
 fn arguments_after(alloc: Global, word: Word, text: &[u8]) -> Result<(Command, &[u8]), Stop>
     ensures { Gives (λ x. x.0) (λ x. x.1.now) result (arguments_after word text.now) }
 {
@@ -142,6 +143,7 @@ fn arguments_after(alloc: Global, word: Word, text: &[u8]) -> Result<(Command, &
 }
 
 /// What follows the word of a command that is allowed.
+#[inline(always)]
 fn arguments<'a>(
     alloc: Global,
     letters: &[u8],
@@ -158,6 +160,7 @@ fn arguments<'a>(
 }
 
 /// A tag, a command that is allowed, and the rest. APPEND is read up to its message's marker.
+#[inline(always)]
 pub fn tagged(alloc: Global, text: &[u8], login: bool) -> Result<(&[u8], Command, &[u8]), Stop>
     ensures is { Gives (λ x. record { tag = x.0.now; command = x.1 }) (λ x. x.2.now) result
         (command_at login text.now) }

@@ -97,6 +97,7 @@ fn wrong_at(text: &[u8], login: bool, at: usize) -> Result<Progress, CommandFaul
 }
 
 /// A text that begins with a command, and then has this rest.
+#[inline(always)]
 fn ended_before(
     text: &[u8],
     tag: &[u8],
@@ -176,6 +177,7 @@ fn at_marker(
 
 /// A text that begins with a command, up to the marker of its message if it has one, and then has
 /// this rest.
+#[inline(always)]
 fn read_before(
     text: &[u8],
     login: bool,
@@ -218,6 +220,7 @@ fn at_literal(text: &[u8], count: usize) -> Result<Progress, CommandFault>
 /// The first fault of the text, in the order of `CommandFault`, but a literal or a message that is
 /// too large is found at its marker, and the faults of a line at its end. `NoMemory` if memory runs
 /// out.
+#[inline(always)]
 pub fn read_progress(alloc: Global, text: &[u8], login: bool) -> Result<Progress, CommandFault>
     ensures is { (result ≡ Err NoMemory) ⊎ (result ≡ progress_in login text.now) }
     ensures fits { IfOk result (λ progress. Fits text.now progress) }

@@ -16,6 +16,7 @@ pub enum Word {
 }
 
 /// The command that these letters name, in either case.
+#[inline(always)]
 pub fn word_of(letters: &[u8]) -> Option<Word>
     ensures { result ≡ word_of letters.now }
 {
