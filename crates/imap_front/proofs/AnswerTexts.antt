@@ -1,5 +1,5 @@
 -- What answers the commands: replies that no call of theirs gets, and texts that are never empty.
-use Rattle.std.proofs.Common.{◌≡◌, ◌≢◌, ℕ, Bool, true, false, if◌then◌else◌, List, [], ◌∷◌, ◌++◌, length, slice_get, Option, Some, None, Result, Ok, Err, codes, refl, sym, ap, ◌∙◌, subst, append_assoc}
+use Rattle.std.proofs.Common.{◌≡◌, ◌≢◌, ℕ, Bool, true, false, if◌then◌else◌, List, [], ◌∷◌, ◌++◌, length, slice_get, Option, Some, None, Result, Ok, Err, codes, refl, sym, ◌∙◌, subst, append_assoc}
 use Rattle.std.specs.List.{flat_map}
 use Rattle.wire_io.specs.declared.ends.After.{After}
 use Rattle.wire_io.specs.declared.ends.After.TheVariants.{Open}
@@ -20,13 +20,14 @@ use Rattle.desk.specs.Asking.{DeskCall}
 use Rattle.imap_grammar.specs.declared.status.StatusItem.{StatusItem}
 use Rattle.imap_grammar.specs.declared.command.Command.{Command}
 use Rattle.imap_grammar.specs.declared.command.Command.TheVariants.{Capability, Noop, Logout, Login, GetQuota, GetQuotaRoot, SetQuota, Status as StatusCommand, Append}
-use Rattle.imap_grammar.specs.declared.command.CommandFault.TheVariants.{NotAuthenticated, AlreadyAuthenticated}
-use Rattle.imap_grammar.specs.Requests.{Request, command, refused}
+use Rattle.imap_grammar.specs.declared.command.CommandFault.TheVariants.{NotAuthenticated}
+use Rattle.imap_grammar.specs.Requests.{command, refused}
 use Rattle.imap_front.specs.declared.asked.Refusal.{Refusal}
 use Rattle.imap_front.specs.AskedLimits.{limits_asked, refusal_words}
 use Rattle.imap_front.specs.Texts.{tagged_line, crlf, root_line, quota_root_line, status_line, unavailable_text, journal_full_text, fault_text, fault_line_tag, fault_words, login_text}
 use Rattle.imap_front.specs.Answers.{CommandKind, get_quota, get_quota_root, set_quota, status, append, get_quota_text, get_quota_root_text, set_quota_text, status_text, append_text, answer_text}
-use Rattle.imap_front.specs.Imap.{is_too_long, has_no_item, call_on, ask_by_name, set_root, work_of, work_of_nobody, work_of_entry, work_in, work}
+use Rattle.front_core.specs.Works.{call_on, is_too_long}
+use Rattle.imap_front.specs.Imap.{has_no_item, ask_by_name, set_root, work_of, work_of_nobody, work_of_entry, work_in, work}
 use Rattle.imap_front.specs.Wording.{EndsTagged, RequestsHaveTexts, CommandsEndTagged}
 
 module _ (roots : List RootSpec) (tag : List ℕ) where

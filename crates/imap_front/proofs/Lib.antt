@@ -2,8 +2,6 @@ pub mod Rows
 pub mod Repeats
 pub mod AnswerTexts
 pub mod Asking
-pub mod Leading
 pub mod Coming
 pub mod Lining
 pub mod Wording
-pub mod Serving

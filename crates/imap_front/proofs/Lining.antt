@@ -1,5 +1,5 @@
 -- A line of a feed as part of a request: before a message, and after one.
-use Rattle.std.proofs.Common.{◌≡◌, ◌≢◌, ◌+◌, ◌<◌, ◌≤◌, ℕ, Bool, List, [], ◌∷◌, ◌++◌, length, take, Option, Some, None, Ok, Err, refl, sym, ap, ◌∙◌, subst, append_assoc, arith, length-append}
+use Rattle.std.proofs.Common.{◌≡◌, ◌≢◌, ◌+◌, ◌<◌, ◌≤◌, ℕ, Bool, List, [], ◌∷◌, ◌++◌, length, take, Some, None, Ok, Err, refl, sym, ap, ◌∙◌, subst, append_assoc, arith, length-append}
 use Rattle.wire_io.specs.Lines.{HasNoEnd, IsLine}
 use Rattle.wire_io.specs.Feeding.{IsBegun, IsTooLong}
 use Rattle.imap_grammar.specs.declared.command.Command.{Command}
@@ -8,7 +8,7 @@ use Rattle.imap_grammar.specs.declared.command.CommandFault.TheVariants.{TooLong
 use Rattle.imap_grammar.specs.declared.progress.Progress.{Progress}
 use Rattle.imap_grammar.specs.declared.progress.Progress.TheVariants.{Whole, Literal, Message, More}
 use Rattle.imap_grammar.specs.Progressing.{max_text, progress_in}
-use Rattle.imap_grammar.specs.Requests.{Request, command, refused, fault_tag, whole_at, ready}
+use Rattle.imap_grammar.specs.Requests.{command, refused, fault_tag, whole_at, ready}
 use Rattle.imap_grammar.specs.Reaching.{HasNoLineFeed, EndsLine, Reached, AwaitsLine, IsEnded}
 use Rattle.imap_grammar.proofs.Reaching.{part_reached, part_none, part_too_long, line_more, line_literal, line_message, line_command, line_fault, after_reached, after_none, after_too_long, end_reached, line_ended, end_command, end_fault}
 

@@ -1,5 +1,5 @@
 -- Commands that are answered without a call.
-use Rattle.std.proofs.Common.{◌≡◌, ◌<◌, ℕ, Bool, true, false, List, [], length, Option, Result, Ok, Err, IfOk, ◌⊎◌, inl, inr, lt-ltb, refl, sym, ap, ◌∙◌, subst}
+use Rattle.std.proofs.Common.{◌≡◌, ◌<◌, ℕ, true, false, List, [], length, Option, Result, Ok, Err, IfOk, ◌⊎◌, inl, inr, lt-ltb, refl, sym, ap, ◌∙◌, subst}
 use Rattle.std.proofs.lemmas.Bool.{cond-true, cond-false}
 use Rattle.wire_io.specs.declared.ends.After.{After}
 use Rattle.wire_io.specs.declared.ends.After.TheVariants.{Open}
@@ -27,8 +27,8 @@ use Rattle.imap_front.specs.declared.asked.Refusal.{Refusal}
 use Rattle.imap_front.specs.AskedLimits.{limits_asked, refusal_words}
 use Rattle.imap_front.specs.Answers.{CommandKind, set_quota, status}
 use Rattle.imap_front.specs.Texts.{fault_text, tagged_line, not_permitted_text, no_root_text, no_item_text, no_mailbox_text}
-use Rattle.imap_front.specs.Imap.{is_too_long, has_no_item, ask_for, ask_by_name, set_root, work_of, ask_status}
-use Rattle.imap_front.specs.Serving.{DoesWork, LeavesWork}
+use Rattle.front_core.specs.Works.{is_too_long, DoesWork, LeavesWork}
+use Rattle.imap_front.specs.Imap.{has_no_item, ask_for, ask_by_name, set_root, work_of}
 
 -- a text alone
 module _ {T : Type 0} (text_of : T → List ℕ) where

@@ -1,5 +1,5 @@
 -- Each text can be continued to a whole request of IMAP.
-use Rattle.std.proofs.Common.{ℕ, List, Option, is_some, refl}
+use Rattle.std.proofs.Common.{is_some, refl}
 use Rattle.wire_io.specs.Protocol.{IsFilled}
 use Rattle.imap_grammar.proofs.Filled.{fills}
 use Rattle.accounts_file.specs.Hosts.{Hosts}

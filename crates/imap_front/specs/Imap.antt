@@ -1,6 +1,6 @@
 -- IMAP as a protocol over the accounts of a table: what is done for a request, and how it is
 -- answered. What a request is, the grammar says.
-use Rattle.std.specs.Prelude.{ℕ, Bool, nat_lt, if◌then◌else◌, List, [], length, slice_get, Option, Some, None, Result, Ok, Err}
+use Rattle.std.specs.Prelude.{ℕ, Bool, if◌then◌else◌, List, [], length, slice_get, Option, Some, None, Result, Ok, Err}
 use Rattle.std.specs.List.{list_any}
 use Rattle.std.specs.Option.{is_none, is_some}
 use Rattle.wire_io.specs.Work.{Work, ask, say}
@@ -22,6 +22,7 @@ use Rattle.account_core.specs.declared.calls.Call.{Call}
 use Rattle.account_core.specs.declared.calls.Call.TheVariants.{Deliver, Quota, SetLimits, Roots, Status as StatusCall}
 use Rattle.account_core.specs.History.{Answer}
 use Rattle.desk.specs.Asking.{DeskCall}
+use Rattle.front_core.specs.Works.{call_on, is_too_long}
 use Rattle.imap_front.specs.declared.asked.Refusal.{Refusal}
 use Rattle.imap_front.specs.AskedLimits.{limits_asked, refusal_words}
 use Rattle.imap_front.specs.Answers.{CommandKind, get_quota, get_quota_root, set_quota, status, append, answer_text}
@@ -29,17 +30,9 @@ use Rattle.imap_front.specs.Texts.{tagged_line, no_root_text, no_mailbox_text, t
 use Rattle.imap_front.specs.Texts.{no_item_text, name_too_long_text, not_permitted_text}
 use Rattle.imap_front.specs.Texts.{capability_text, noop_text, logout_text, login_text, fault_text}
 
--- more bytes than a name may have
-abbrev pub is_too_long : List ℕ → Bool
-is_too_long name = nat_lt 255 (length name)
-
 -- an item is none that this service has
 abbrev pub has_no_item : List (Option StatusItem) → Bool
 has_no_item items = list_any is_none items
-
--- this call on the account of this number, with the octets of its message
-abbrev pub call_on : ℕ → Call → (octets : List ℕ) → DeskCall
-call_on account call octets = record { account = account; call = call; bytes = octets }
 
 -- What is done for the owner of the account of this number, which has this entry in the table.
 module _ (account : ℕ) (entry : AccountEntry) where

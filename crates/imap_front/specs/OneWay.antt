@@ -5,7 +5,6 @@ use Rattle.wire_io.specs.declared.ends.After.TheVariants.{Open, Closing}
 use Rattle.wire_io.specs.Work.{ask, say, AlwaysEnds}
 use Rattle.wire_io.specs.Session.{EndsOneWay}
 use Rattle.quota_units.specs.Limiting.{LimitNumbers}
-use Rattle.quota_units.specs.declared.flags.Flags.{Flags}
 use Rattle.quota_roots.specs.MailboxNames.{canonical}
 use Rattle.accounts_file.specs.Hosts.{Hosts, logged_in}
 use Rattle.accounts_file.specs.declared.entry.AccountEntry.{AccountEntry}
@@ -24,8 +23,9 @@ use Rattle.imap_front.specs.Answers.{CommandKind, get_quota, get_quota_root, set
 use Rattle.imap_front.specs.Texts.{tagged_line, no_root_text, no_mailbox_text, try_create_text}
 use Rattle.imap_front.specs.Texts.{no_item_text, name_too_long_text, not_permitted_text}
 use Rattle.imap_front.specs.Texts.{capability_text, noop_text, logout_text, login_text, fault_text}
-use Rattle.imap_front.specs.Imap.{is_too_long, has_no_item, call_on, ask_by_name, set_root}
-use Rattle.imap_front.specs.Imap.{ask_status, work_of, work_of_nobody, work_of_entry, work_in}
+use Rattle.front_core.specs.Works.{call_on, is_too_long}
+use Rattle.imap_front.specs.Imap.{has_no_item, ask_by_name, set_root}
+use Rattle.imap_front.specs.Imap.{work_of, work_of_nobody, work_of_entry, work_in}
 use Rattle.imap_front.specs.Imap.{fault_after, imap}
 
 said : (text : List ℕ) (after : After)

@@ -1,5 +1,5 @@
 // The answers to commands that make a call. Each is appended whole unless memory runs out.
-ghost use Rattle.std.specs.Prelude.{◌≡◌, ◌++◌, OnOk, IfOk};
+ghost use Rattle.std.specs.Prelude.{◌≡◌, ◌++◌, OnOk};
 ghost use Rattle.imap_front.specs.Answers.{get_quota_text, get_quota_root_text, set_quota_text};
 ghost use Rattle.imap_front.specs.Answers.{status_text, append_text, kind_of, answer_text, HasRootsOf};
 ghost use Rattle.account_core.specs.History.{replied};
@@ -7,13 +7,12 @@ ghost use Rattle.account_core.specs.History.{replied};
 use crate::quota_lines::{push_quota_root_line, push_root_line, push_root_lines};
 use crate::status_lines::{MailboxCounts, push_status_line};
 use crate::texts::{
-    ANSWER_ROOM, APPENDED, NO_MAILBOX, NO_ROOT, OVER_QUOTA, TRY_CREATE, UNAVAILABLE, push_tagged,
+    APPENDED, NO_MAILBOX, NO_ROOT, OVER_QUOTA, TRY_CREATE, UNAVAILABLE, push_tagged,
 };
 use account_core::Reply;
 use imap_grammar::StatusItem;
 use quota_roots::Roots;
-use quota_units::NoMemory;
-use std::alloc::{AllocError, Global};
+use std::alloc::AllocError;
 
 /// A command that makes a call, with the part of it that the answer repeats.
 #[derive(Clone, Copy)]
@@ -150,7 +149,8 @@ fn push_append(out: &mut Vec<u8>, tag: &[u8], reply: &Reply) -> Result<(), Alloc
 }
 
 /// Appends the answer to a command of this kind, given the reply to its call.
-fn push_answer(
+#[inline(always)]
+pub fn push_answer(
     out: &mut Vec<u8>,
     roots: &Roots,
     kind: Kind<'_>,
@@ -168,21 +168,4 @@ fn push_answer(
         Kind::Status { mailbox, items } => push_status(out, mailbox, items, tag, reply),
         Kind::Append => push_append(out, tag, reply),
     }
-}
-
-/// The answer to a command of this kind, given the reply to its call.
-pub fn answer_to(
-    alloc: Global,
-    roots: &Roots,
-    kind: Kind<'_>,
-    tag: &[u8],
-    reply: &Reply,
-) -> Result<Vec<u8>, NoMemory>
-    requires { HasRootsOf roots.now reply.now }
-    ensures { IfOk result (λ text. text.items
-        ≡ answer_text roots.now (kind_of kind.entry) tag.now (replied reply.now)) }
-{
-    let mut text = Vec::with_capacity(alloc, ANSWER_ROOM)?;
-    push_answer(&mut text, roots, kind, tag, reply)?;
-    Ok(text)
 }

@@ -1,22 +1,24 @@
 // Commands of the owner of an account.
-ghost use Rattle.std.specs.Prelude.{◌≡◌, ◌≤◌, [], length, OnErr, IfOk};
+ghost use Rattle.std.specs.Prelude.{◌≡◌, ◌≤◌, [], length, OnOk, OnErr, IfOk};
 ghost use Rattle.account_core.specs.Legality.{HasBytes};
 ghost use Rattle.desk.specs.Asking.{IsDeskCall};
 ghost use Rattle.imap_grammar.specs.declared.command.Command.TheVariants.{GetQuota, GetQuotaRoot, SetQuota, Status};
 ghost use Rattle.wire_io.specs.declared.ends.After.TheVariants.{Open};
-ghost use Rattle.imap_front.specs.Answers.{kind_of};
-ghost use Rattle.imap_front.specs.Imap.{call_on, has_no_item, deliver, work_of};
+ghost use Rattle.account_core.specs.History.{replied};
+ghost use Rattle.imap_front.specs.Answers.{answer_text, kind_of, HasRootsOf};
+ghost use Rattle.imap_front.specs.Imap.{has_no_item, deliver, work_of};
 ghost use Rattle.imap_front.specs.Texts.{tagged_line};
 ghost use Rattle.quota_roots.specs.MailboxNames.{canonical};
-ghost use Rattle.imap_front.specs.Serving.{IsOwnerOf, AnswersCall, LeavesCall, DoesWork, LeavesWork};
+ghost use Rattle.front_core.specs.Works.{call_on, AnswersCall, LeavesCall, DoesWork, LeavesWork};
+ghost use Rattle.imap_front.specs.Serving.{IsOwnerOf};
 
-use crate::answers::{Kind, answer_to};
+use crate::answers::{Kind, push_answer};
 use crate::asked::limits_of;
 use crate::texts::{
     JOURNAL_FULL, NAME_TOO_LONG, NO_ITEM, NO_MAILBOX, NO_ROOT, NOOP, NOT_PERMITTED, TRY_CREATE,
-    UNAVAILABLE, capability, logout, refusal, tagged,
+    UNAVAILABLE, push_capability, push_logout, push_refusal, push_tagged,
 };
-use account_core::{Call, StepError};
+use account_core::{Call, Reply, StepError};
 use accounts_file::AccountEntry;
 use desk::Desk;
 use imap_grammar::{AskedLimit, Astring, Command, CommandFault, StatusItem};
@@ -43,15 +45,32 @@ fn has_no_item(items: &[Option<StatusItem>]) -> bool
     items.iter().any(|item| item.is_none())
 }
 
+// Each method writes its answer to `answer`, which is empty before.
 impl Owner<'_> {
-    /// The answer in these words. No call is made.
-    fn words(&self, alloc: Global, words: &[u8]) -> Result<Vec<u8>, NoMemory>
-        ensures { IfOk result (λ text. text.items ≡ tagged_line self.now.tag.now words.now) }
+    /// Writes the answer in these words. No call is made.
+    #[inline(always)]
+    fn words(&self, words: &[u8], answer: &mut Vec<u8>) -> Result<(), NoMemory>
+        requires { answer.old.items ≡ [] }
+        ensures { OnOk result (answer.new.items ≡ tagged_line self.now.tag.now words.now) }
     {
-        tagged(alloc, self.tag, words)
+        push_tagged(answer, self.tag, words)?;
+        Ok(())
     }
 
-    /// Makes the call, with the octets of its message, and the answer to a command of this kind.
+    /// Writes the answer to a command of this kind, given the reply to its call.
+    #[inline(always)]
+    fn reply(&self, kind: Kind<'_>, reply: &Reply, answer: &mut Vec<u8>) -> Result<(), NoMemory>
+        requires roots { HasRootsOf self.now.details.now.setup.roots reply.now }
+        requires empty { answer.old.items ≡ [] }
+        ensures { OnOk result (answer.new.items ≡ answer_text self.now.details.now.setup.roots
+            (kind_of kind.entry) self.now.tag.now (replied reply.now)) }
+    {
+        push_answer(answer, &self.details.setup.roots, kind, self.tag, reply)?;
+        Ok(())
+    }
+
+    /// Makes the call, with the octets of its message, and writes the answer to a command of this
+    /// kind.
     fn ask<D: Desk>(
         &self,
         alloc: Global,
@@ -59,57 +78,71 @@ impl Owner<'_> {
         call: Call,
         octets: &[u8],
         kind: Kind<'_>,
-    ) -> Result<Vec<u8>, NoMemory>
+        answer: &mut Vec<u8>,
+    ) -> Result<(), NoMemory>
+        requires empty { answer.old.items ≡ [] }
         requires owner { IsOwnerOf (D.shares desk.old) self.now.account self.now.details.now }
         requires asked { IsDeskCall call }
         requires octets { HasBytes call octets.now }
-        ensures ok { IfOk result (λ text. AnswersCall (D.shares desk.old) (D.shares desk.new)
-            (call_on self.now.account call octets.now) self.now.details.now.setup.roots
-            (kind_of kind.entry) self.now.tag.now text.items) }
+        ensures ok { OnOk result (AnswersCall (D.shares desk.old) (D.shares desk.new)
+            (call_on self.now.account call octets.now)
+            (answer_text self.now.details.now.setup.roots (kind_of kind.entry) self.now.tag.now)
+            answer.new.items) }
         ensures err { OnErr result (LeavesCall (D.shares desk.old) (D.shares desk.new)
             (call_on self.now.account call octets.now)) }
         ensures leads { D.leads desk.old desk.new }
     {
         match desk.ask(alloc, self.account, call, octets) {
-            Ok(reply) => answer_to(alloc, &self.details.setup.roots, kind, self.tag, &reply),
-            Err(StepError::Store) => self.words(alloc, UNAVAILABLE),
-            Err(StepError::JournalFull { .. }) => self.words(alloc, JOURNAL_FULL),
+            Ok(reply) => self.reply(kind, &reply, answer),
+            Err(StepError::Store) => self.words(UNAVAILABLE, answer),
+            Err(StepError::JournalFull { .. }) => self.words(JOURNAL_FULL, answer),
             Err(StepError::NoMemory) => Err(NoMemory),
         }
     }
 
-    /// Makes the answer to GETQUOTA.
+    /// Writes the answer to GETQUOTA.
     fn get_quota<D: Desk>(
         &self,
         alloc: Global,
         desk: &mut D,
         root: Astring,
-    ) -> Result<Vec<u8>, NoMemory>
-        requires { IsOwnerOf (D.shares desk.old) self.now.account self.now.details.now }
-        ensures ok { IfOk result (λ text. DoesWork (D.shares desk.old) (D.shares desk.new)
+        answer: &mut Vec<u8>,
+    ) -> Result<(), NoMemory>
+        requires empty { answer.old.items ≡ [] }
+        requires owner { IsOwnerOf (D.shares desk.old) self.now.account self.now.details.now }
+        ensures ok { OnOk result (DoesWork (D.shares desk.old) (D.shares desk.new)
             (work_of self.now.account self.now.details.now self.now.tag.now (GetQuota root) [])
-            text.items Open) }
+            answer.new.items Open) }
         ensures err { OnErr result (LeavesWork (D.shares desk.old) (D.shares desk.new)
             (work_of self.now.account self.now.details.now self.now.tag.now (GetQuota root) [])) }
         ensures leads { D.leads desk.old desk.new }
     {
         match root.into_name() {
-            Ok(root) => self.ask(alloc, desk, Call::Quota { root }, b"", Kind::GetQuota),
-            Err(_) => self.words(alloc, NO_ROOT),
+            Ok(root) => self.ask(
+                alloc,
+                desk,
+                Call::Quota { root },
+                b"",
+                Kind::GetQuota,
+                answer,
+            ),
+            Err(_) => self.words(NO_ROOT, answer),
         }
     }
 
-    /// Makes the answer to GETQUOTAROOT.
+    /// Writes the answer to GETQUOTAROOT.
     fn get_quota_root<D: Desk>(
         &self,
         alloc: Global,
         desk: &mut D,
         mailbox: &[u8],
-    ) -> Result<Vec<u8>, NoMemory>
-        requires { IsOwnerOf (D.shares desk.old) self.now.account self.now.details.now }
-        ensures ok { IfOk result (λ text. DoesWork (D.shares desk.old) (D.shares desk.new)
+        answer: &mut Vec<u8>,
+    ) -> Result<(), NoMemory>
+        requires empty { answer.old.items ≡ [] }
+        requires owner { IsOwnerOf (D.shares desk.old) self.now.account self.now.details.now }
+        ensures ok { OnOk result (DoesWork (D.shares desk.old) (D.shares desk.new)
             (work_of self.now.account self.now.details.now self.now.tag.now
-            (GetQuotaRoot mailbox.now) []) text.items Open) }
+            (GetQuotaRoot mailbox.now) []) answer.new.items Open) }
         ensures err { OnErr result (LeavesWork (D.shares desk.old) (D.shares desk.new)
             (work_of self.now.account self.now.details.now self.now.tag.now
             (GetQuotaRoot mailbox.now) [])) }
@@ -119,77 +152,95 @@ impl Owner<'_> {
         match Name::of(alloc, mailbox) {
             Ok(name) => {
                 let call = Call::Roots { mailbox: name };
-                self.ask(alloc, desk, call, b"", Kind::GetQuotaRoot { mailbox })
+                self.ask(
+                    alloc,
+                    desk,
+                    call,
+                    b"",
+                    Kind::GetQuotaRoot { mailbox },
+                    answer,
+                )
             }
-            Err(NameError::TooLong { .. }) => self.words(alloc, NAME_TOO_LONG),
+            Err(NameError::TooLong { .. }) => self.words(NAME_TOO_LONG, answer),
             Err(NameError::NoMemory) => Err(NoMemory),
         }
     }
 
-    /// Makes the answer to SETQUOTA.
+    /// Writes the answer to SETQUOTA.
     fn set_quota<D: Desk>(
         &self,
         alloc: Global,
         desk: &mut D,
         root: Astring,
         limits: &[AskedLimit],
-    ) -> Result<Vec<u8>, NoMemory>
-        requires { IsOwnerOf (D.shares desk.old) self.now.account self.now.details.now }
-        ensures ok { IfOk result (λ text. DoesWork (D.shares desk.old) (D.shares desk.new)
+        answer: &mut Vec<u8>,
+    ) -> Result<(), NoMemory>
+        requires empty { answer.old.items ≡ [] }
+        requires owner { IsOwnerOf (D.shares desk.old) self.now.account self.now.details.now }
+        ensures ok { OnOk result (DoesWork (D.shares desk.old) (D.shares desk.new)
             (work_of self.now.account self.now.details.now self.now.tag.now
-            (SetQuota root limits.now) []) text.items Open) }
+            (SetQuota root limits.now) []) answer.new.items Open) }
         ensures err { OnErr result (LeavesWork (D.shares desk.old) (D.shares desk.new)
             (work_of self.now.account self.now.details.now self.now.tag.now
             (SetQuota root limits.now) [])) }
         ensures leads { D.leads desk.old desk.new }
     {
         if !self.details.admin {
-            return self.words(alloc, NOT_PERMITTED);
+            return self.words(NOT_PERMITTED, answer);
         }
         match limits_of(limits) {
-            Err(refusal) => self.words(alloc, refusal.words()),
+            Err(refusal) => self.words(refusal.words(), answer),
             Ok(limits) => match root.into_name() {
                 Ok(root) => {
                     let call = Call::SetLimits { root, limits };
-                    self.ask(alloc, desk, call, b"", Kind::SetQuota)
+                    self.ask(alloc, desk, call, b"", Kind::SetQuota, answer)
                 }
-                Err(_) => self.words(alloc, NO_ROOT),
+                Err(_) => self.words(NO_ROOT, answer),
             },
         }
     }
 
-    /// Makes the answer to STATUS.
+    /// Writes the answer to STATUS.
     fn status<D: Desk>(
         &self,
         alloc: Global,
         desk: &mut D,
         mailbox: &[u8],
         items: &[Option<StatusItem>],
-    ) -> Result<Vec<u8>, NoMemory>
-        requires { IsOwnerOf (D.shares desk.old) self.now.account self.now.details.now }
-        ensures ok { IfOk result (λ text. DoesWork (D.shares desk.old) (D.shares desk.new)
+        answer: &mut Vec<u8>,
+    ) -> Result<(), NoMemory>
+        requires empty { answer.old.items ≡ [] }
+        requires owner { IsOwnerOf (D.shares desk.old) self.now.account self.now.details.now }
+        ensures ok { OnOk result (DoesWork (D.shares desk.old) (D.shares desk.new)
             (work_of self.now.account self.now.details.now self.now.tag.now
-            (Status mailbox.now items.now) []) text.items Open) }
+            (Status mailbox.now items.now) []) answer.new.items Open) }
         ensures err { OnErr result (LeavesWork (D.shares desk.old) (D.shares desk.new)
             (work_of self.now.account self.now.details.now self.now.tag.now
             (Status mailbox.now items.now) [])) }
         ensures leads { D.leads desk.old desk.new }
     {
         if has_no_item(items) {
-            return self.words(alloc, NO_ITEM);
+            return self.words(NO_ITEM, answer);
         }
         let mailbox = canonical_spelling(mailbox);
         match Name::of(alloc, mailbox) {
             Ok(name) => {
                 let call = Call::Status { mailbox: name };
-                self.ask(alloc, desk, call, b"", Kind::Status { mailbox, items })
+                self.ask(
+                    alloc,
+                    desk,
+                    call,
+                    b"",
+                    Kind::Status { mailbox, items },
+                    answer,
+                )
             }
-            Err(NameError::TooLong { .. }) => self.words(alloc, NO_MAILBOX),
+            Err(NameError::TooLong { .. }) => self.words(NO_MAILBOX, answer),
             Err(NameError::NoMemory) => Err(NoMemory),
         }
     }
 
-    /// Makes the answer to APPEND of this message, with these flags.
+    /// Writes the answer to APPEND of this message, with these flags.
     fn append<D: Desk>(
         &self,
         alloc: Global,
@@ -197,12 +248,14 @@ impl Owner<'_> {
         mailbox: &[u8],
         flags: Flags,
         message: &[u8],
-    ) -> Result<Vec<u8>, NoMemory>
+        answer: &mut Vec<u8>,
+    ) -> Result<(), NoMemory>
+        requires empty { answer.old.items ≡ [] }
         requires owner { IsOwnerOf (D.shares desk.old) self.now.account self.now.details.now }
         requires small { length message.now ≤ 67108864 }
-        ensures ok { IfOk result (λ text. DoesWork (D.shares desk.old) (D.shares desk.new)
+        ensures ok { OnOk result (DoesWork (D.shares desk.old) (D.shares desk.new)
             (deliver self.now.account self.now.details.now self.now.tag.now
-            (canonical mailbox.now) flags message.now) text.items Open) }
+            (canonical mailbox.now) flags message.now) answer.new.items Open) }
         ensures err { OnErr result (LeavesWork (D.shares desk.old) (D.shares desk.new)
             (deliver self.now.account self.now.details.now self.now.tag.now
             (canonical mailbox.now) flags message.now)) }
@@ -216,56 +269,71 @@ impl Owner<'_> {
                     octets,
                     flags,
                 };
-                self.ask(alloc, desk, call, message, Kind::Append)
+                self.ask(alloc, desk, call, message, Kind::Append, answer)
             }
-            Err(NameError::TooLong { .. }) => self.words(alloc, TRY_CREATE),
+            Err(NameError::TooLong { .. }) => self.words(TRY_CREATE, answer),
             Err(NameError::NoMemory) => Err(NoMemory),
         }
     }
 
-    /// Makes the answer to a command, with its message if it is APPEND, and returns what the
-    /// session does after it.
+    /// Makes the calls of a command, with its message if it is APPEND, and writes its answer.
+    /// Returns what the session does after it.
+    #[inline(always)]
     pub fn answer<D: Desk>(
         &self,
         alloc: Global,
         desk: &mut D,
         command: Command,
         message: &[u8],
-    ) -> Result<(Vec<u8>, After), NoMemory>
+        answer: &mut Vec<u8>,
+    ) -> Result<After, NoMemory>
+        requires empty { answer.old.items ≡ [] }
         requires owner { IsOwnerOf (D.shares desk.old) self.now.account self.now.details.now }
         requires small { length message.now ≤ 67108864 }
-        ensures ok { IfOk result (λ answer. DoesWork (D.shares desk.old) (D.shares desk.new)
+        ensures ok { IfOk result (λ after. DoesWork (D.shares desk.old) (D.shares desk.new)
             (work_of self.now.account self.now.details.now self.now.tag.now command message.now)
-            answer.0.items answer.1) }
+            answer.new.items after) }
         ensures err { OnErr result (LeavesWork (D.shares desk.old) (D.shares desk.new)
             (work_of self.now.account self.now.details.now self.now.tag.now command
             message.now)) }
         ensures leads { D.leads desk.old desk.new }
     {
         match command {
-            Command::Capability => Ok((capability(alloc, self.tag)?, After::Open)),
-            Command::Noop => Ok((self.words(alloc, NOOP)?, After::Open)),
-            Command::Logout => Ok((logout(alloc, self.tag)?, After::Closing)),
-            Command::Login { .. } => {
-                let text = refusal(alloc, self.tag, CommandFault::AlreadyAuthenticated)?;
-                Ok((text, After::Open))
+            Command::Capability => {
+                push_capability(answer, self.tag)?;
+                Ok(After::Open)
             }
-            Command::GetQuota { root } => { Ok((self.get_quota(alloc, desk, root)?, After::Open)) }
+            Command::Noop => {
+                self.words(NOOP, answer)?;
+                Ok(After::Open)
+            }
+            Command::Logout => {
+                push_logout(answer, self.tag)?;
+                Ok(After::Closing)
+            }
+            Command::Login { .. } => {
+                push_refusal(answer, self.tag, CommandFault::AlreadyAuthenticated)?;
+                Ok(After::Open)
+            }
+            Command::GetQuota { root } => {
+                self.get_quota(alloc, desk, root, answer)?;
+                Ok(After::Open)
+            }
             Command::GetQuotaRoot { mailbox } => {
-                let text = self.get_quota_root(alloc, desk, mailbox.as_slice())?;
-                Ok((text, After::Open))
+                self.get_quota_root(alloc, desk, mailbox.as_slice(), answer)?;
+                Ok(After::Open)
             }
             Command::SetQuota { root, limits } => {
-                let text = self.set_quota(alloc, desk, root, limits.as_slice())?;
-                Ok((text, After::Open))
+                self.set_quota(alloc, desk, root, limits.as_slice(), answer)?;
+                Ok(After::Open)
             }
             Command::Status { mailbox, items } => {
-                let text = self.status(alloc, desk, mailbox.as_slice(), items.as_slice())?;
-                Ok((text, After::Open))
+                self.status(alloc, desk, mailbox.as_slice(), items.as_slice(), answer)?;
+                Ok(After::Open)
             }
             Command::Append { mailbox, flags, .. } => {
-                let text = self.append(alloc, desk, mailbox.as_slice(), flags, message)?;
-                Ok((text, After::Open))
+                self.append(alloc, desk, mailbox.as_slice(), flags, message, answer)?;
+                Ok(After::Open)
             }
         }
     }

@@ -12,6 +12,7 @@ use quota_units::units_up;
 use std::alloc::AllocError;
 
 /// Appends a resource's name, usage and limit.
+#[inline(always)]
 fn push_resource(out: &mut Vec<u8>, name: &[u8], usage: u64, limit: u64) -> Result<(), AllocError>
     ensures { OnOk result (out.new.items ≡ out.old.items ++ resource name.now usage limit) }
 {
@@ -63,6 +64,7 @@ fn push_quota_line(out: &mut Vec<u8>, name: &[u8], row: &RootRow) -> Result<(), 
 }
 
 /// Appends the untagged line of a root of the account.
+#[inline(always)]
 pub fn push_root_line(out: &mut Vec<u8>, roots: &Roots, row: &RootRow) -> Result<(), AllocError>
     requires { row.now.root < length roots.now }
     ensures { OnOk result (out.new.items ≡ out.old.items ++ root_line roots.now row.now) }

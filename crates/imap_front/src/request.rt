@@ -1,6 +1,6 @@
 // Taking a request from a feed: lines of a command's text, octets of its literals, and the octets
 // of its message.
-ghost use Rattle.std.specs.Prelude.{◌≡◌, ◌≢◌, ◌≤◌, ◌++◌, List, [], ℕ, Option, length, is_some, IfOk, Ok};
+ghost use Rattle.std.specs.Prelude.{◌≡◌, ◌≢◌, ◌≤◌, ◌++◌, List, ℕ, Option, length, is_some, IfOk, Ok};
 ghost use Rattle.quota_units.specs.Causes.{HasCause};
 ghost use Rattle.wire_io.specs.Feeds.{source_of, source_name, waiting_of, taken_of, handed_of, limit_of};
 ghost use Rattle.imap_grammar.specs.declared.progress.Progress.TheVariants.{Message};
@@ -8,39 +8,36 @@ ghost use Rattle.imap_grammar.specs.Progressing.{progress_in, Fits};
 ghost use Rattle.imap_grammar.specs.Requests.{ready};
 ghost use Rattle.imap_grammar.specs.Reaching.{Reached};
 ghost use Rattle.accounts_file.specs.Hosts.{Hosts};
-ghost use Rattle.imap_front.specs.Taking.{Takes, TakesRest, HasSizes};
+ghost use Rattle.front_core.specs.Taking.{Takes, TakesRest};
+ghost use Rattle.imap_front.specs.Imap.{imap};
+ghost use Rattle.imap_front.specs.Taking.{request_taken, HasSizes};
 
 use imap_grammar::{Command, CommandFault, MAX_TEXT, Progress, read_progress};
 use quota_units::{Failed, NoMemory};
 use std::alloc::Global;
 use wire_io::{Feed, LineEnd, SessionEnd, Sink, Source, end_of, send};
 
-/// The room that the text of a command begins with, in bytes: most texts fit, so that they are not
-/// moved.
-const TEXT_ROOM: usize = 128;
-
 /// What is written before octets are read (RFC 9051, section 7.5).
 const READY: &[u8] = b"+ Ready\r\n";
 
-/// A request that was taken from a feed.
+/// A request that was taken from a feed, apart from its text: all bytes of it but the octets of its
+/// message.
 #[derive(Drop)]
 pub enum Taken {
-    /// A command. Its text is all of it but the octets of its message, and the first `tag` bytes of
-    /// the text are its tag. Only APPEND has a message.
+    /// A command. The first `tag` bytes of its text are its tag. Only APPEND has a message.
     Command {
-        text: Vec<u8>,
         tag: usize,
         command: Command,
         message: Vec<u8>,
     },
     /// A text that is no command.
     Fault {
-        text: Vec<u8>,
         fault: CommandFault,
     },
 }
 
 /// What the text has come to, or its fault.
+#[inline(always)]
 fn progress_of(
     alloc: Global,
     text: &[u8],
@@ -65,17 +62,19 @@ fn take_last_line<S: Source>(
     login: Option<u32>,
     feed: &mut Feed<'_, S>,
     at: u64,
-    text: Vec<u8>,
+    text: &mut Vec<u8>,
     message: Vec<u8>,
 ) -> Result<Taken, SessionEnd>
-    requires marker { progress_in (is_some login) text.items ≡ Ok (Message (length message.items)) }
-    requires fits { Fits text.items (Message (length message.items)) }
+    requires marker { progress_in (is_some login) text.old.items
+        ≡ Ok (Message (length message.items)) }
+    requires fits { Fits text.old.items (Message (length message.items)) }
     ensures takes { (hosts : Hosts) (written : Option (List ℕ)) (said : List ℕ)
-        → Reached (is_some login) text.items said → TakesRest hosts (limit_of feed.old) login
+        → Reached (is_some login) text.old.items said
+        → TakesRest (imap hosts) login (limit_of feed.old) (request_taken text.new.items)
         (S.left (source_of feed.old)) (S.left (source_of feed.new)) written written
         (waiting_of feed.old) (waiting_of feed.new) (taken_of feed.old) (taken_of feed.new) at
-        (handed_of feed.old) (handed_of feed.new) (text.items ++ message.items) said result }
-    ensures sizes { IfOk result HasSizes }
+        (handed_of feed.old) (handed_of feed.new) (text.old.items ++ message.items) said result }
+    ensures sizes { IfOk result (HasSizes text.new.items) }
     ensures same_source { source_name feed.new ≡ source_name feed.old }
     ensures same_limit { limit_of feed.new ≡ limit_of feed.old }
     ensures within { taken_of feed.new ≤ limit_of feed.new }
@@ -83,24 +82,21 @@ fn take_last_line<S: Source>(
         (S.faults (source_of feed.old)) (S.faults (source_of feed.new)) }
     ensures not_written { result ≢ Err SessionEnd.WriteFault }
 {
-    let mut text = text;
     let room = MAX_TEXT - text.len();
-    match feed.line(&mut text, room) {
-        Ok(LineEnd::Whole) => match progress_of(alloc, &text, login) {
+    match feed.line(text, room) {
+        Ok(LineEnd::Whole) => match progress_of(alloc, text, login) {
             Ok(Ok(progress)) => match progress {
                 Progress::Whole { command, tag } => Ok(Taken::Command {
-                    text,
                     tag,
                     command,
                     message,
                 }),
                 _ => unreachable!(),
             },
-            Ok(Err(fault)) => Ok(Taken::Fault { text, fault }),
+            Ok(Err(fault)) => Ok(Taken::Fault { fault }),
             Err(NoMemory) => Err(SessionEnd::NoMemory),
         },
         Ok(LineEnd::TooLong) => Ok(Taken::Fault {
-            text,
             fault: CommandFault::TooLong,
         }),
         Err(end) => Err(end_of(end, at, text.len() + message.len())),
@@ -115,17 +111,19 @@ fn take_message<S: Source, O: Sink>(
     feed: &mut Feed<'_, S>,
     sink: &mut O,
     at: u64,
-    text: Vec<u8>,
+    text: &mut Vec<u8>,
     count: usize,
 ) -> Result<Taken, SessionEnd>
-    requires marker { progress_in (is_some login) text.items ≡ Ok (Message count) }
-    requires fits { Fits text.items (Message count) }
+    requires marker { progress_in (is_some login) text.old.items ≡ Ok (Message count) }
+    requires fits { Fits text.old.items (Message count) }
     ensures takes { (hosts : Hosts) (said : List ℕ)
-        → Reached (is_some login) text.items (said ++ ready) → TakesRest hosts (limit_of feed.old)
-        login (S.left (source_of feed.old)) (S.left (source_of feed.new)) (O.written sink.old)
+        → Reached (is_some login) text.old.items (said ++ ready)
+        → TakesRest (imap hosts) login (limit_of feed.old) (request_taken text.new.items)
+        (S.left (source_of feed.old)) (S.left (source_of feed.new)) (O.written sink.old)
         (O.written sink.new) (waiting_of feed.old) (waiting_of feed.new) (taken_of feed.old)
-        (taken_of feed.new) at (handed_of feed.old) (handed_of feed.new) text.items said result }
-    ensures sizes { IfOk result HasSizes }
+        (taken_of feed.new) at (handed_of feed.old) (handed_of feed.new) text.old.items said
+        result }
+    ensures sizes { IfOk result (HasSizes text.new.items) }
     ensures same_source { source_name feed.new ≡ source_name feed.old }
     ensures same_limit { limit_of feed.new ≡ limit_of feed.old }
     ensures within { taken_of feed.new ≤ limit_of feed.new }
@@ -144,33 +142,26 @@ fn take_message<S: Source, O: Sink>(
     }
 }
 
-/// An empty text, with room for most commands if there is memory for it.
-fn empty_text(alloc: Global) -> Vec<u8>
-    ensures items { result.items ≡ [] }
-{
-    match Vec::with_capacity(alloc, TEXT_ROOM) {
-        Ok(text) => text,
-        Err(_) => Vec::new(alloc),
-    }
-}
-
-/// Takes one request from the feed, and writes its prompts.
+/// Takes one request from the feed, and writes its prompts. The bytes of the request, without the
+/// octets of its message, are then all that `text` has.
 ///
 /// # Errors
 ///
 /// The session's end, if it ends within the request.
+#[inline(always)]
 pub fn take_request<S: Source, O: Sink>(
     alloc: Global,
     login: Option<u32>,
     feed: &mut Feed<'_, S>,
     sink: &mut O,
+    text: &mut Vec<u8>,
 ) -> Result<Taken, SessionEnd>
     // All of the request came, and its prompts are written; or the session ended within it.
-    ensures takes { (hosts : Hosts) → Takes hosts (limit_of feed.old) login
-        (S.left (source_of feed.old)) (S.left (source_of feed.new)) (O.written sink.old)
-        (O.written sink.new) (waiting_of feed.old) (waiting_of feed.new) (taken_of feed.old)
-        (taken_of feed.new) (handed_of feed.old) (handed_of feed.new) result }
-    ensures sizes { IfOk result HasSizes }
+    ensures takes { (hosts : Hosts) → Takes (imap hosts) login (limit_of feed.old)
+        (request_taken text.new.items) (S.left (source_of feed.old)) (S.left (source_of feed.new))
+        (O.written sink.old) (O.written sink.new) (waiting_of feed.old) (waiting_of feed.new)
+        (taken_of feed.old) (taken_of feed.new) (handed_of feed.old) (handed_of feed.new) result }
+    ensures sizes { IfOk result (HasSizes text.new.items) }
     ensures same_source { source_name feed.new ≡ source_name feed.old }
     ensures same_limit { limit_of feed.new ≡ limit_of feed.old }
     ensures within { taken_of feed.new ≤ limit_of feed.new }
@@ -180,23 +171,21 @@ pub fn take_request<S: Source, O: Sink>(
         (O.faults sink.old) (O.faults sink.new) }
 {
     let at = feed.at();
-    let mut text = empty_text(alloc);
+    text.clear();
     loop {
         let room = MAX_TEXT - text.len();
-        match feed.line(&mut text, room) {
+        match feed.line(text, room) {
             Ok(LineEnd::Whole) => {}
             Ok(LineEnd::TooLong) => {
                 return Ok(Taken::Fault {
-                    text,
                     fault: CommandFault::TooLong,
                 });
             }
             Err(end) => return Err(end_of(end, at, text.len())),
         }
-        match progress_of(alloc, &text, login) {
+        match progress_of(alloc, text, login) {
             Ok(Ok(Progress::Whole { command, tag })) => {
                 return Ok(Taken::Command {
-                    text,
                     tag,
                     command,
                     message: Vec::new(alloc),
@@ -207,14 +196,14 @@ pub fn take_request<S: Source, O: Sink>(
                 if let Err(Failed) = send(sink, READY) {
                     return Err(SessionEnd::WriteFault);
                 }
-                if let Err(end) = feed.exact(&mut text, count) {
+                if let Err(end) = feed.exact(text, count) {
                     return Err(end_of(end, at, text.len()));
                 }
             }
             Ok(Ok(Progress::Message { count })) => {
                 return take_message(alloc, login, feed, sink, at, text, count);
             }
-            Ok(Err(fault)) => return Ok(Taken::Fault { text, fault }),
+            Ok(Err(fault)) => return Ok(Taken::Fault { fault }),
             Err(NoMemory) => return Err(SessionEnd::NoMemory),
         }
     }

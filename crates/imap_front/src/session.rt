@@ -1,23 +1,22 @@
 // One session of IMAP over a desk of accounts.
-ghost use Rattle.std.specs.Prelude.{◌≡◌, ◌≢◌, ◌⊎◌, IfSome};
+ghost use Rattle.std.specs.Prelude.{◌≡◌, ◌⊎◌, [], IfSome};
 ghost use Rattle.quota_units.specs.Causes.{HasCause, Rose};
 ghost use Rattle.wire_io.specs.Session.{EndsAsDecided};
 ghost use Rattle.desk.specs.Shares.{HaveNoFailure};
 ghost use Rattle.desk.specs.Logs.{IsLog, IsRepliedLog};
 ghost use Rattle.imap_front.specs.Imap.{imap};
-ghost use Rattle.imap_front.specs.Serving.{input_limit, IsDeskOf, IsLogin, IsImapSession};
+ghost use Rattle.front_core.specs.Desks.{input_limit, IsDeskOf, IsLogin};
+ghost use Rattle.imap_front.specs.Serving.{IsImapSession};
 
 use crate::request::take_request;
 use crate::response::answer_request;
 use crate::texts::greeting_of;
 use accounts_file::HostTable;
 use desk::Desk;
+use front_core::INPUT_LIMIT;
 use quota_units::{Failed, NoMemory};
 use std::alloc::Global;
 use wire_io::{After, Feed, Service, SessionEnd, Sink, Source, run_service, send};
-
-/// The most bytes that a session takes.
-const INPUT_LIMIT: u64 = 1073741824;
 
 /// A session of IMAP of a table's accounts.
 #[derive(Drop)]
@@ -25,6 +24,25 @@ pub(crate) struct ImapSession<'a> {
     table: &'a HostTable,
     /// The number of the account that is logged in; `None` if nobody is.
     login: Option<u32>,
+    /// The text of the request that is served: all bytes of it but the octets of its message. Each
+    /// request begins with the room that the last one left.
+    text: Vec<u8>,
+    /// The answer to it.
+    answer: Vec<u8>,
+}
+
+/// The room that the text of a request and its answer begin with, in bytes: most fit, so that they
+/// are not moved.
+const ROOM: usize = 128;
+
+/// An empty text, with this room if there is memory for it.
+fn empty_text(alloc: Global) -> Vec<u8>
+    ensures items { result.items ≡ [] }
+{
+    match Vec::with_capacity(alloc, ROOM) {
+        Ok(text) => text,
+        Err(_) => Vec::new(alloc),
+    }
 }
 
 impl<'a, D: Desk> Service<D> for ImapSession<'a> {
@@ -35,7 +53,7 @@ impl<'a, D: Desk> Service<D> for ImapSession<'a> {
     ghost use Rattle.desk.specs.Logs.{IsLog};
     ghost use Rattle.desk.proofs.Logging.{log_nothing, logs_join};
     ghost use Rattle.imap_front.specs.Imap.{imap};
-    ghost use Rattle.imap_front.specs.Serving.{IsDeskOf, IsLogin};
+    ghost use Rattle.front_core.specs.Desks.{IsDeskOf, IsLogin};
     ghost use Rattle.imap_front.specs.Filled.{imap_filled};
     ghost use Rattle.imap_front.specs.OneWay.{imap_one_way};
 
@@ -64,12 +82,20 @@ impl<'a, D: Desk> Service<D> for ImapSession<'a> {
         feed: &mut Feed<'_, S>,
         sink: &mut O,
     ) -> Result<After, SessionEnd> {
-        let request = take_request(alloc, self.login, feed, sink)?;
-        match answer_request(alloc, self.table, self.login, desk, request) {
-            Ok(response) => {
-                self.login = response.login;
-                match send(sink, &response.text) {
-                    Ok(()) => Ok(response.after),
+        let request = take_request(alloc, self.login, feed, sink, &mut self.text)?;
+        match answer_request(
+            alloc,
+            self.table,
+            self.login,
+            desk,
+            &self.text,
+            request,
+            &mut self.answer,
+        ) {
+            Ok(onward) => {
+                self.login = onward.login;
+                match send(sink, &self.answer) {
+                    Ok(()) => Ok(onward.after),
                     Err(Failed) => Err(SessionEnd::WriteFault),
                 }
             }
@@ -136,6 +162,8 @@ pub fn run_imap<S: Source, O: Sink, D: Desk>(
     let mut session = ImapSession {
         table,
         login: as_account,
+        text: empty_text(alloc),
+        answer: empty_text(alloc),
     };
     let greeting = greeting_of(as_account);
     run_service(

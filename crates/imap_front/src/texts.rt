@@ -1,15 +1,11 @@
 // The lines that answer requests. Each text is appended whole unless memory runs out.
-ghost use Rattle.std.specs.Prelude.{◌≡◌, ◌++◌, OnOk, IfOk};
+ghost use Rattle.std.specs.Prelude.{◌≡◌, ◌++◌, OnOk};
 ghost use Rattle.std.specs.Fmt.{decimal};
 ghost use Rattle.imap_front.specs.Texts.{tagged_line, capability_text, logout_text, fault_line_tag, fault_words, fault_text, greeting};
 
 use imap_grammar::CommandFault;
 use itoa::Buffer;
-use quota_units::NoMemory;
-use std::alloc::{AllocError, Global};
-
-/// The room that an answer begins with, in bytes: most answers fit, so that they are not moved.
-pub const ANSWER_ROOM: usize = 128;
+use std::alloc::AllocError;
 
 /// The first line of the session of an account's owner.
 const PREAUTHENTICATED: &[u8] = b"* PREAUTH quotad ready\r\n";
@@ -73,6 +69,7 @@ pub const UNAVAILABLE: &[u8] = b"NO [UNAVAILABLE] Store unavailable";
 pub const JOURNAL_FULL: &[u8] = b"NO [LIMIT] Journal full";
 
 /// Appends a number in decimal.
+#[inline(always)]
 pub fn push_number(out: &mut Vec<u8>, number: u64) -> Result<(), AllocError>
     ensures { OnOk result (out.new.items ≡ out.old.items ++ decimal number) }
 {
@@ -80,6 +77,7 @@ pub fn push_number(out: &mut Vec<u8>, number: u64) -> Result<(), AllocError>
 }
 
 /// Appends the line that answers the command with this tag in these words.
+#[inline(always)]
 pub fn push_tagged(out: &mut Vec<u8>, tag: &[u8], words: &[u8]) -> Result<(), AllocError>
     ensures { OnOk result (out.new.items ≡ out.old.items ++ tagged_line tag.now words.now) }
 {
@@ -89,36 +87,26 @@ pub fn push_tagged(out: &mut Vec<u8>, tag: &[u8], words: &[u8]) -> Result<(), Al
     out.extend_from_slice(b"\r\n")
 }
 
-/// The line that answers the command with this tag in these words.
-pub fn tagged(alloc: Global, tag: &[u8], words: &[u8]) -> Result<Vec<u8>, NoMemory>
-    ensures { IfOk result (λ text. text.items ≡ tagged_line tag.now words.now) }
+/// Appends the answer to CAPABILITY.
+#[inline(always)]
+pub fn push_capability(out: &mut Vec<u8>, tag: &[u8]) -> Result<(), AllocError>
+    ensures { OnOk result (out.new.items ≡ out.old.items ++ capability_text tag.now) }
 {
-    let mut text = Vec::with_capacity(alloc, ANSWER_ROOM)?;
-    push_tagged(&mut text, tag, words)?;
-    Ok(text)
+    out.extend_from_slice(CAPABILITIES)?;
+    push_tagged(out, tag, b"OK CAPABILITY completed")
 }
 
-/// The answer to CAPABILITY.
-pub fn capability(alloc: Global, tag: &[u8]) -> Result<Vec<u8>, NoMemory>
-    ensures { IfOk result (λ text. text.items ≡ capability_text tag.now) }
+/// Appends the answer to LOGOUT.
+#[inline(always)]
+pub fn push_logout(out: &mut Vec<u8>, tag: &[u8]) -> Result<(), AllocError>
+    ensures { OnOk result (out.new.items ≡ out.old.items ++ logout_text tag.now) }
 {
-    let mut text = Vec::with_capacity(alloc, ANSWER_ROOM)?;
-    text.extend_from_slice(CAPABILITIES)?;
-    push_tagged(&mut text, tag, b"OK CAPABILITY completed")?;
-    Ok(text)
-}
-
-/// The answer to LOGOUT.
-pub fn logout(alloc: Global, tag: &[u8]) -> Result<Vec<u8>, NoMemory>
-    ensures { IfOk result (λ text. text.items ≡ logout_text tag.now) }
-{
-    let mut text = Vec::with_capacity(alloc, ANSWER_ROOM)?;
-    text.extend_from_slice(b"* BYE quotad closing\r\n")?;
-    push_tagged(&mut text, tag, b"OK LOGOUT completed")?;
-    Ok(text)
+    out.extend_from_slice(b"* BYE quotad closing\r\n")?;
+    push_tagged(out, tag, b"OK LOGOUT completed")
 }
 
 /// The tag of the line that answers a fault: the command's, or `*` if the text has none.
+#[inline(always)]
 fn fault_line_tag(fault: CommandFault, tag: &[u8]) -> &[u8]
     ensures { result.now ≡ fault_line_tag fault tag.now }
 {
@@ -153,11 +141,12 @@ fn push_fault_words(out: &mut Vec<u8>, fault: CommandFault) -> Result<(), AllocE
     }
 }
 
-/// The line that answers a text with this fault, and with this tag if it has one.
-pub fn refusal(alloc: Global, tag: &[u8], fault: CommandFault) -> Result<Vec<u8>, NoMemory>
-    ensures { IfOk result (λ text. text.items ≡ fault_text tag.now fault) }
+/// Appends the line that answers a text with this fault, and with this tag if it has one.
+pub fn push_refusal(out: &mut Vec<u8>, tag: &[u8], fault: CommandFault) -> Result<(), AllocError>
+    ensures { OnOk result (out.new.items ≡ out.old.items ++ fault_text tag.now fault) }
 {
-    let mut words = Vec::new(alloc);
-    push_fault_words(&mut words, fault)?;
-    tagged(alloc, fault_line_tag(fault, tag), &words)
+    out.extend_from_slice(fault_line_tag(fault, tag))?;
+    out.extend_from_slice(b" ")?;
+    push_fault_words(out, fault)?;
+    out.extend_from_slice(b"\r\n")
 }

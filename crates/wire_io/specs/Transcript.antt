@@ -8,10 +8,11 @@ use Rattle.wire_io.specs.declared.ends.SessionEnd.TheVariants.{Closed, Stopped, 
 use Rattle.wire_io.specs.Work.{Work, ask, say}
 use Rattle.wire_io.specs.Protocol.{Protocol}
 
--- what a session writes, and how it ends
-pub record Transcript : Type 0 where
+-- what a session writes, how it ends, and the world that it leaves
+pub record Transcript (World : Type 0) : Type 0 where
   pub text : List ℕ
   pub end : SessionEnd
+  pub world : World
 
 -- a world that answers calls
 pub record Answers (World Call Answer : Type 0) : Type 0 where
@@ -48,16 +49,21 @@ or_later (Some request) own unread later =
     Some (record { own = own; request = request; unread = unread })
 or_later None own unread later = later
 
-abbrev pub or_waits : {Request : Type 0} → Option (Found Request) → Transcript
-    → (Found Request → Transcript) → Transcript
+abbrev pub or_waits : {Request World : Type 0} → Option (Found Request) → Transcript World
+    → (Found Request → Transcript World) → Transcript World
 or_waits (Some found) waiting served = served found
 or_waits None waiting served = waiting
 
 -- what the session does after a request: it goes on to the rest, closes or stops
-abbrev pub going_on : After → List ℕ → Transcript → Transcript
-going_on Open text rest = record { text = text ++ rest.text; end = rest.end }
-going_on Closing text rest = record { text = text; end = Closed }
-going_on Stopping text rest = record { text = text; end = Stopped }
+abbrev pub going_on : {World : Type 0} → After → List ℕ → World → Transcript World
+    → Transcript World
+going_on Open text world rest = record {
+  text = text ++ rest.text;
+  end = rest.end;
+  world = rest.world;
+}
+going_on Closing text world rest = record { text = text; end = Closed; world = world }
+going_on Stopping text world rest = record { text = text; end = Stopped; world = world }
 
 -- the end if less than a request is left from this offset on
 abbrev pub end_of_rest : (limit at : ℕ) → List ℕ → SessionEnd
@@ -75,20 +81,26 @@ module _ {State Request Call Answer : Type 0} (p : Protocol State Request Call A
 
   module _ {World : Type 0} (by : Answers World Call Answer) (limit : ℕ) where
     -- the session from this offset on, of at most `rounds` requests
-    abbrev pub transcript_from : (rounds : ℕ) → State → World → (at : ℕ) → List ℕ → Transcript
+    abbrev pub transcript_from : (rounds : ℕ) → State → World → (at : ℕ) → List ℕ
+        → Transcript World
     transcript_from zero state world at bytes = record {
       text = p.prompts state bytes;
       end = end_of_rest limit at bytes;
+      world = world;
     }
     transcript_from (suc rounds) state world at bytes =
-        or_waits (first_request state [] bytes)
-        (record { text = p.prompts state bytes; end = end_of_rest limit at bytes }) (λ found.
+        or_waits (first_request state [] bytes) (record {
+          text = p.prompts state bytes;
+          end = end_of_rest limit at bytes;
+          world = world;
+        }) (λ found.
         let done = perform by world (p.work state found.request) in
-        going_on done.after (p.prompts state found.own ++ done.text) (transcript_from rounds
-        (p.next state found.request) done.world (at + length found.own) found.unread))
+        going_on done.after (p.prompts state found.own ++ done.text) done.world
+        (transcript_from rounds (p.next state found.request) done.world
+        (at + length found.own) found.unread))
 
-    -- what the session of an input writes after its greeting, and how it ends; of the input only
-    -- the first `limit` bytes are looked at
-    abbrev pub transcript : State → World → List ℕ → Transcript
+    -- what the session of an input writes after its greeting, how it ends, and the world that it
+    -- leaves; of the input only the first `limit` bytes are looked at
+    abbrev pub transcript : State → World → List ℕ → Transcript World
     transcript start world input = transcript_from (suc (length input)) start world 0
         (take limit input)

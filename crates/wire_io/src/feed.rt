@@ -11,6 +11,7 @@ use quota_units::NoMemory;
 
 /// How many of the first bytes belong to a line that has room for `room` more, and whether they end
 /// it.
+#[inline(always)]
 fn line_prefix(bytes: &[u8], room: usize) -> (usize, bool)
     requires some { 0 < length bytes.now }
     requires room { 0 < room }
@@ -95,6 +96,7 @@ impl<'a, S: Source> Feed<'a, S> {
     /// source ended, and the feed had taken fewer bytes than its limit. `Limit`: the feed had taken
     /// as many bytes as its limit. After these three, all bytes that were taken have been handed
     /// out. `NoMemory`: `out` could not grow, and the bytes that it did not gain still wait.
+    #[inline(always)]
     #[tactic(auto, using(crate::proofs::LineLemmas::line_has_end))]
     pub fn line(&mut self, out: &mut Vec<u8>, max: usize) -> Result<LineEnd, FeedEnd>
         // The feed keeps the source that was lent to it, and takes no more bytes than its limit.
@@ -201,6 +203,7 @@ impl<'a, S: Source> Feed<'a, S> {
     }
 
     /// Makes sure that a byte waits. It reads only if none waits.
+    #[inline(always)]
     fn ready(&mut self) -> Result<(), FeedEnd>
         ensures same_source { source_name self.new ≡ source_name self.old }
         ensures same_limit { limit_of self.new ≡ limit_of self.old }
@@ -230,6 +233,7 @@ impl<'a, S: Source> Feed<'a, S> {
     }
 
     /// Hands out the first `count` of the bytes that wait.
+    #[inline(always)]
     fn hand_out(&mut self, out: &mut Vec<u8>, count: usize) -> Result<(), FeedEnd>
         requires { count ≤ length (waiting_of self.old) }
         ensures same_source { source_name self.new ≡ source_name self.old }

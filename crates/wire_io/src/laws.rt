@@ -34,8 +34,8 @@ pub fn each_input_has_an_end<State, Request, Call, Answer>()
 {}
 
 /// In a protocol with `IsFilled`, if a world that only these calls change answers each call, the
-/// bytes of an input decide all that a session writes and how it ends, unless a read or a write
-/// fails or memory runs out.
+/// bytes of an input decide all that a session writes, how it ends and the world that it leaves,
+/// unless a read or a write fails or memory runs out.
 pub fn an_input_decides_the_session<State, Request, Call, Answer, World>()
     ghost p: { Protocol State Request Call Answer × Answers World Call Answer }
     ensures { IsFilled p.0 → (greeting : List ℕ) (start : State) (limit : ℕ)
@@ -44,5 +44,6 @@ pub fn an_input_decides_the_session<State, Request, Call, Answer, World>()
         → Session p.0 greeting start limit (left ≡ []) taken log written end
         → IsAnswered p.1 world log last → IsQuiet end → end ≢ SessionEnd.NoMemory
         → (written ≡ greeting ++ (transcript p.0 p.1 limit start world input).text)
-        × (end ≡ (transcript p.0 p.1 limit start world input).end) }
+        × (end ≡ (transcript p.0 p.1 limit start world input).end)
+        × (last ≡ (transcript p.0 p.1 limit start world input).world) }
 {}

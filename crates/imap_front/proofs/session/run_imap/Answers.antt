@@ -2,7 +2,7 @@ use Rattle.std.proofs.Common.{rules}
 use Rattle.imap_front.specs.Imap.{imap}
 use Rattle.imap_front.specs.Serving.{IsImapSession}
 use Rattle.desk.specs.Logs.{IsLog}
-use Rattle.imap_front.proofs.Leading.{session_replied}
+use Rattle.front_core.proofs.Leading.{session_replied}
 use Rattle.imap_front.proofs.session.run_imap.Goals as goal
 
 pub returns-clause-replied : goal.returns-clause-replied

@@ -1,4 +1,4 @@
-use Rattle.std.proofs.Common.{ℕ, [], ap, Err, Vec, Global}
+use Rattle.std.proofs.Common.{[], ap, Err}
 use Rattle.account_core.specs.declared.calls.Call.TheVariants.{Quota}
 use Rattle.imap_grammar.specs.declared.command.Command.TheVariants.{GetQuota}
 use Rattle.imap_front.specs.Answers.{get_quota}
@@ -12,5 +12,5 @@ returns-in-Err-clause-ok g c =
     let account = c.args.self.now.account in
     let entry = c.args.self.now.details.now in
     let tag = c.args.self.now.tag.now in
-    said (λ (t : Vec ℕ Global). t.items) (g.D.Desk.shares c.args.desk.now) (work_of account entry tag (GetQuota c.args.root) []) (no_root_text tag) c.words.result
+    said (λ (t : Unit {0}). c.words.new.answer.items) (g.D.Desk.shares c.args.desk.now) (work_of account entry tag (GetQuota c.args.root) []) (no_root_text tag) c.words.result
     (long_name account entry tag c.args.root (no_root_text tag) get_quota (Quota c.args.root) [] (c.in-Err.ensures.too_long.0 (ap Err c.in-Err.ensures.only))) c.words.ensures

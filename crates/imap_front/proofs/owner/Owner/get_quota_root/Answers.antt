@@ -1,4 +1,4 @@
-use Rattle.std.proofs.Common.{ℕ, [], ap, subst, Err, length, ◌<◌, Vec, Global}
+use Rattle.std.proofs.Common.{[], ap, subst, Err, length, ◌<◌}
 use Rattle.account_core.specs.declared.calls.Call.TheVariants.{Roots}
 use Rattle.imap_grammar.specs.declared.command.Command.TheVariants.{GetQuotaRoot}
 use Rattle.quota_roots.specs.MailboxNames.{canonical}
@@ -16,5 +16,5 @@ returns-in-Err-TooLong-clause-ok g c =
     let own = canonical c.args.mailbox.now in
     let mailbox = c.canonical_spelling-mailbox.result.now in
     let long : 255 < length mailbox = c.in-Err-TooLong.ensures.too_long.0 (ap Err (too_long_by c.in-Err-TooLong.field-0 c.in-Err-TooLong.field-0-0 (length mailbox) c.in-Err-TooLong.field-0-is c.in-Err-TooLong.ensures.only)) in
-    said (λ (t : Vec ℕ Global). t.items) (g.D.Desk.shares c.args.desk.now) (work_of account entry tag (GetQuotaRoot c.args.mailbox.now) []) (name_too_long_text tag) c.words.result
+    said (λ (t : Unit {0}). c.words.new.answer.items) (g.D.Desk.shares c.args.desk.now) (work_of account entry tag (GetQuotaRoot c.args.mailbox.now) []) (name_too_long_text tag) c.words.result
     (long_name account entry tag own (name_too_long_text tag) (get_quota_root own) (Roots own) [] (subst (λ l. 255 < length l) c.canonical_spelling-mailbox.ensures.value long)) c.words.ensures

@@ -1,4 +1,4 @@
-use Rattle.std.proofs.Common.{ℕ, [], ap, ◌∙◌, sym, Err, Vec, Global}
+use Rattle.std.proofs.Common.{[], ap, ◌∙◌, sym, Err}
 use Rattle.account_core.specs.declared.calls.Call.TheVariants.{SetLimits}
 use Rattle.imap_grammar.specs.declared.command.Command.TheVariants.{SetQuota}
 use Rattle.imap_front.specs.Answers.{set_quota}
@@ -12,7 +12,7 @@ returns-then-not-self-clause-ok g c =
     let account = c.args.self.now.account in
     let entry = c.args.self.now.details.now in
     let tag = c.args.self.now.tag.now in
-    said (λ (t : Vec ℕ Global). t.items) (g.D.Desk.shares c.args.desk.now) (work_of account entry tag (SetQuota c.args.root c.args.limits.now) []) (not_permitted_text tag) c.words.result
+    said (λ (t : Unit {0}). c.words.new.answer.items) (g.D.Desk.shares c.args.desk.now) (work_of account entry tag (SetQuota c.args.root c.args.limits.now) []) (not_permitted_text tag) c.words.result
     (not_permitted account entry tag c.args.root c.args.limits.now c.if-not-self.true) c.words.ensures
 
 pub returns-in-Err-into_name-clause-ok : goal.returns-in-Err-into_name-clause-ok
@@ -21,7 +21,7 @@ returns-in-Err-into_name-clause-ok g c =
     let entry = c.args.self.now.details.now in
     let tag = c.args.self.now.tag.now in
     let words = c.words-in-Err-into_name in
-    said (λ (t : Vec ℕ Global). t.items) (g.D.Desk.shares c.args.desk.now) (work_of account entry tag (SetQuota c.args.root c.args.limits.now) []) (no_root_text tag) words.result
+    said (λ (t : Unit {0}). words.new.answer.items) (g.D.Desk.shares c.args.desk.now) (work_of account entry tag (SetQuota c.args.root c.args.limits.now) []) (no_root_text tag) words.result
     (limits_given account entry tag c.args.root c.args.limits.now c.if-not-self.false c.in-Ok.limits (sym c.in-Ok.ensures)
     ∙ long_name account entry tag c.args.root (no_root_text tag) set_quota (SetLimits c.args.root c.in-Ok.limits) [] (c.in-Err-into_name.ensures.too_long.0 (ap Err c.in-Err-into_name.ensures.only)))
     words.ensures

@@ -13,7 +13,7 @@ use Rattle.desk.specs.Shares.{HaveNoFailure, Share}
 use Rattle.desk.specs.Asking.{DeskCall}
 use Rattle.desk.specs.Logs.{IsLog, IsRepliedLog}
 use Rattle.desk.proofs.Replying.{logs_without_failure_are_replied}
-use Rattle.imap_front.specs.Serving.{IsDeskOf}
+use Rattle.front_core.specs.Desks.{IsDeskOf}
 
 -- a desk of the table's accounts stays one
 pub desk_after : (hosts : Hosts) (shares shares' : List Share) (log : List (DeskCall × Answer)) → IsDeskOf hosts shares → IsLog shares shares' log → IsDeskOf hosts shares'

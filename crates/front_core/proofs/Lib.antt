@@ -1,0 +1,4 @@
+pub mod Asking
+pub mod Coming
+pub mod Leading
+pub mod Serving
