@@ -11,14 +11,17 @@ use Rattle.accounts_file.specs.declared.entry.AccountEntry.{AccountEntry}
 use Rattle.accounts_file.specs.Hosts.{plain_account, plain_hosts}
 use Rattle.desk.specs.Shares.{Share, share_at}
 use Rattle.desk.specs.Logs.{IsLog}
-use Rattle.imap_front.specs.Serving.{IsDeskOf, IsImapSession, IsOpenedAs}
+use Rattle.front_core.specs.Desks.{IsDeskOf, IsOpenedAs}
+use Rattle.sessions.specs.declared.front.Front.TheVariants.{ImapAs}
+use Rattle.sessions.specs.Fronts.{IsSessionOf}
+use Rattle.owner_sessions.specs.Owner.{HasAccount}
+use Rattle.owner_sessions.specs.Plain.{empty_account, plain_share}
+use Rattle.owner_sessions.proofs.Sessions.{inputs_decide_sessions}
 use Rattle.quotactl.specs.Control.{Runs, served, no_account, units_of_storage, hosts_with, fresh}
 use Rattle.quotactl.specs.Ends.{exit_status}
 use Rattle.quotactl.specs.Outcome.{HasOutcome, IsUnbroken, session_outcome}
-use Rattle.quotactl.specs.Owner.{HasAccount}
-use Rattle.quotactl.specs.Plain.{empty_account, plain_share}
-use Rattle.quotactl.specs.Words.{IsSessionForm}
-use Rattle.quotactl.proofs.Sessions.{session_output}
+use Rattle.command_words.specs.declared.form.Form.{Form}
+use Rattle.command_words.specs.Words.{IsForm, IsSessionForm}
 
 -- a desk of the one account of the plain table fits the table
 pub plain_fits : (limits : LimitNumbers) (shares : List Share) → shares ≡ plain_share limits ∷ [] → IsDeskOf (plain_hosts limits) shares
@@ -44,19 +47,17 @@ form_number words n m a b =
 -- the status and all that is written, where nothing failed and there was memory
 pub run_outcome : (left left' written written' : Option (List ℕ)) (units n status : ℕ) (R W : Type 0) (words : List (List ℕ)) → IsSessionForm words units → IsSessionForm words n
     → Runs left left' written written' units status → (status ≡ 4 → R) → (status ≡ 5 → W)
-    → IfSome left (λ input. IsUnbroken R W status → HasOutcome written written' status (session_outcome (hosts_with n) (Some 0) (fresh n) input))
+    → IfSome left (λ input. IsUnbroken R W status → HasOutcome written written' status (session_outcome (hosts_with n) (ImapAs 0) (fresh n) input))
 run_outcome None left' written written' units n status R W words form own runs read write = tt
 run_outcome (Some input) left' written written' units n status R W words form own (no_account source sink is) read write = λ unbroken. absurd (unbroken.memory is)
 run_outcome (Some input) left' written written' units n status R W words form own (served shares' end session alone is) read write = λ unbroken.
     let quiet : IsQuiet end = ((λ e. unbroken.reads (read (is ∙ ap exit_status e))), (λ e. unbroken.writes (write (is ∙ ap exit_status e)))) in
     let memory : end ≢ NoMemory = λ e. unbroken.memory (is ∙ ap exit_status e) in
     let same = form_number words units n form own in
-    let out = session_output (hosts_with n) (Some 0) (fresh n) shares' (Some input) left' written written' end
-    (subst (λ k. IsImapSession (hosts_with k) (Some 0) (IsLog (fresh k) shares') (Some input) left' written written' end) same session) (fresh_told n) alone quiet memory in
-    record { status_is = is ∙ ap exit_status out.0; appended = out.1 }
+    let out = inputs_decide_sessions (hosts_with n) (ImapAs 0) (fresh n) shares' (Some input) left' written written' end
+    (subst (λ k. IsSessionOf (hosts_with k) (ImapAs 0) (IsLog (fresh k) shares') (Some input) left' written written' end) same session) (fresh_told n) alone quiet memory in
+    record { status_is = is ∙ ap exit_status out.end_is; appended = out.appended }
 
--- no other number is spelled so
-pub not_units : (word : List ℕ) (n : ℕ) → word ≡ decimal n → n < 2 ^ 64 → (n ≤ 0) ⊎ (8796093022207 < n) → (m : ℕ) → word ≡ decimal m → 0 < m → m ≤ 8796093022207 → ⊥
-not_units word n e fits out m i some most =
-    let same : n ≡ m = decimal_injective n m fits (omega (arith, most)) (sym e ∙ i) in
-    elim out [ inl none ↦ omega (arith, none, same, some) | inr above ↦ omega (arith, above, same, most) ]
+-- the words have the form that was read in them
+pub form_is : (words : List (List ℕ)) (found : Option Form) (own form : Form) → IfSome found (λ f. IsForm words f) → found ≡ Some own → own ≡ form → IsForm words form
+form_is words found own form some is same = subst (IsForm words) same (subst (λ (o : Option Form). IfSome o (λ f. IsForm words f)) is some)

@@ -14,11 +14,7 @@ use Rattle.accounts_file.specs.Hosts.{Hosts}
 use Rattle.desk.specs.Shares.{share_at}
 use Rattle.host_opening.specs.Opening.{WasOpened}
 use Rattle.plain_desk.specs.Owning.{IsFresh, share_of}
-use Rattle.imap_front.specs.Serving.{IsDeskOf, IsOpenedAs}
-use Rattle.imap_front.specs.Imap.{imap}
-use Rattle.sessions.specs.declared.front.Front.{Front}
-use Rattle.sessions.specs.declared.front.Front.TheVariants.{Imap, ImapAs}
-use Rattle.sessions.specs.Fronts.{protocol_of}
+use Rattle.front_core.specs.Desks.{IsDeskOf, IsOpenedAs}
 use Rattle.quotactl.specs.Ends.{exit_status}
 use Rattle.quotactl.specs.Lines.{MayEndWith, cut_short, file_status, in_full, opening_status}
 
@@ -117,8 +113,3 @@ pub file_not_seven : (fault : AccountsError) (status : ℕ) → (status ≡ file
 file_not_seven fault status (inl is) e = elim (two_or_six fault) [ inl two ↦ omega (arith, is, two, e) | inr six ↦ omega (arith, is, six, e) ]
 file_not_seven fault status (inr (inl five)) e = omega (arith, five, e)
 file_not_seven fault status (inr (inr six)) e = omega (arith, six, e)
-
--- both fronts speak IMAP
-pub speaks_imap : (hosts : Hosts) (front : Front) → protocol_of hosts front ≡ imap hosts
-speaks_imap hosts Imap = refl
-speaks_imap hosts (ImapAs account) = refl

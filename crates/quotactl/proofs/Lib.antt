@@ -1,5 +1,3 @@
-pub mod Alone
-pub mod Sessions
 pub mod Controlling
 pub mod Hosting
 pub mod Openings

@@ -25,8 +25,8 @@ use Rattle.host_opening.specs.Opening.{IsOpenedFrom, OpensEach}
 use Rattle.host_opening.specs.Refusing.{MayBeOpened, RefusesFirst}
 use Rattle.plain_desk.specs.Owning.{share_of}
 use Rattle.quotactl.specs.Outcome.{HaveNoneDue, first_refusal, refusal_by, refusal_in, share_in, told_in}
-use Rattle.quotactl.specs.Owner.{HasAccount}
-use Rattle.quotactl.specs.Plain.{NeverFails}
+use Rattle.owner_sessions.specs.Owner.{HasAccount}
+use Rattle.owner_sessions.specs.Plain.{NeverFails}
 
 -- what holds of the value in an option, if there is one, holds of this value
 of_some : {X : Type 0} (P : X → Type 0) (x : X) (o : Option X) → o ≡ Some x → IfSome o P → P x

@@ -9,12 +9,14 @@ use Rattle.wire_io.specs.declared.ends.SessionEnd.{SessionEnd}
 use Rattle.accounts_file.specs.Hosts.{Hosts, plain_hosts}
 use Rattle.desk.specs.Shares.{Share}
 use Rattle.desk.specs.Logs.{IsLog}
-use Rattle.imap_front.specs.Serving.{IsImapSession}
+use Rattle.sessions.specs.declared.front.Front.TheVariants.{ImapAs}
+use Rattle.sessions.specs.Fronts.{IsSessionOf}
+use Rattle.owner_sessions.specs.Plain.{plain_share}
+use Rattle.owner_sessions.specs.Owner.{IsUndisturbed, session_over}
 use Rattle.quotactl.specs.Ends.{exit_status}
 use Rattle.quotactl.specs.Lines.{EndsWith, usage_line}
-use Rattle.quotactl.specs.Plain.{plain_share}
-use Rattle.quotactl.specs.Owner.{IsUndisturbed, session_over}
-use Rattle.quotactl.specs.Words.{IsSessionForm, IsImapForm, IsNoForm}
+use Rattle.command_words.specs.Words.{IsSessionForm, IsNoForm}
+use Rattle.quotactl.specs.Words.{HostedForm, IsHostedForm}
 use Rattle.quotactl.specs.Checking.{ChecksLedger}
 use Rattle.quotactl.specs.Hosting.{ServesFile}
 
@@ -30,8 +32,8 @@ abbrev pub fresh : ℕ → List Share
 fresh n = plain_share (units_of_storage n) ∷ []
 
 -- the session that an input gives, of the owner of that account
-abbrev pub session_of : ℕ → List ℕ → Transcript
-session_of n input = session_over (hosts_with n) (Some 0) (fresh n) input
+abbrev pub session_of : ℕ → List ℕ → Transcript (List Share)
+session_of n input = session_over (hosts_with n) (ImapAs 0) (fresh n) input
 
 -- what happens if an account with this many units of storage is opened and a session of its owner
 -- is served
@@ -39,7 +41,7 @@ pub data Runs (left left' written written' : Option (List ℕ)) (n status : ℕ)
   -- the session was served to its end; the owner alone asked the account, and its keeper never
   -- failed
   served : (shares' : List Share) (end : SessionEnd)
-      → IsImapSession (hosts_with n) (Some 0) (IsLog (fresh n) shares')
+      → IsSessionOf (hosts_with n) (ImapAs 0) (IsLog (fresh n) shares')
       left left' written written' end
       → All IsUndisturbed shares' → status ≡ exit_status end
       → Runs left left' written written' n status
@@ -56,12 +58,15 @@ module _ {K : Type 0} (told : K → Option Told) (faults append_faults lists : K
     runs : (n : ℕ) → IsSessionForm words n → Runs left left' written written' n status
         → Controls words file epoch stores stores' left left' written written' status
     -- the program serves a session over the accounts of the file
-    serves : (account : Option (List ℕ)) → IsImapForm words account
-        → ServesFile told faults append_faults lists file epoch account stores stores'
+    serves : (session : HostedForm) → IsHostedForm words session
+        → ServesFile told faults append_faults lists file epoch session stores stores'
         left left' written written' status
         → Controls words file epoch stores stores' left left' written written' status
     -- the program says what a ledger holds
     checks : words ≡ codes "check" ∷ [] → ChecksLedger left left' written written' status
+        → Controls words file epoch stores stores' left left' written written' status
+    -- memory runs out as the arguments are read
+    unread : Keeps left left' → Keeps written written' → status ≡ 6
         → Controls words file epoch stores stores' left left' written written' status
     -- the arguments are unrecognised
     refuses : IsNoForm words → Keeps left left' → EndsWith written written' usage_line 1 status

@@ -18,27 +18,36 @@ use Rattle.host_opening.specs.Refusing.{RefusesFirst}
 use Rattle.host_opening.specs.Closing.{ClosesEach}
 use Rattle.plain_desk.specs.Continuing.{EachContinues}
 use Rattle.plain_desk.specs.Owning.{AreOwned, share_of}
-use Rattle.imap_front.specs.Serving.{IsImapSession}
+use Rattle.sessions.specs.declared.front.Front.{Front}
+use Rattle.sessions.specs.declared.front.Front.TheVariants.{Imap, ImapAs, Policy}
+use Rattle.sessions.specs.Fronts.{IsSessionOf}
 use Rattle.quotactl.specs.Ends.{exit_status}
+use Rattle.quotactl.specs.Words.{HostedForm, imap_of, policy_socket}
 use Rattle.quotactl.specs.Lines.{MayEndWith, file_line, file_status, no_account_line, opening_line, opening_status}
 
--- who is logged in at the start, if this account is named, or none: `None` if no account has the
--- name
-abbrev pub start_in : List AccountEntry → Option (List ℕ) → Option (Option ℕ)
-start_in accounts None = Some None
-start_in accounts (Some name) = option_map Some (named accounts name)
+-- the front of a session over these accounts; none if the session names an account and none of
+-- them has the name
+abbrev pub front_in : List AccountEntry → HostedForm → Option Front
+front_in accounts (imap_of None) = Some Imap
+front_in accounts (imap_of (Some name)) = option_map ImapAs (named accounts name)
+front_in accounts policy_socket = Some Policy
 
--- the file gives this table, and who is logged in at the start
-pub record Gives (file : List ℕ) (epoch : ℕ) (account : Option (List ℕ)) (hosts : Hosts)
-    (start : Option ℕ) : Type 0 where
+-- the session names this account, and the table has none of the name
+pub record IsNobody (hosts : Hosts) (session : HostedForm) (name : List ℕ) : Type 0 where
+  pub is_named : session ≡ imap_of (Some name)
+  pub absent : named hosts.accounts name ≡ None
+
+-- the file gives this table, and this front of the session
+pub record Gives (file : List ℕ) (epoch : ℕ) (session : HostedForm) (hosts : Hosts)
+    (front : Front) : Type 0 where
   pub accepted : refusal_of file ≡ None
   pub table : hosts ≡ hosts_of file epoch
-  pub start_is : start_in hosts.accounts account ≡ Some start
+  pub front_is : front_in hosts.accounts session ≡ Some front
 
 module _ {K : Type 0} (told : K → Option Told) (faults append_faults lists : K → ℕ) where
-  -- The accounts of the table are opened, a session of their owner is served to its end, and the
-  -- accounts are closed.
-  pub record ServesAccounts (hosts : Hosts) (start : Option ℕ)
+  -- The accounts of the table are opened, a session of this front over them is served to its end,
+  -- and the accounts are closed.
+  pub record ServesAccounts (hosts : Hosts) (front : Front)
       (stores stores' : Option (List (List ℕ × Option K)))
       (left left' written written' : Option (List ℕ)) (status : ℕ) : Type 0 where
     pub opened : List State
@@ -47,7 +56,7 @@ module _ {K : Type 0} (told : K → Option Told) (faults append_faults lists : K
     pub end : SessionEnd
     pub were_opened : AllZip (WasOpened hosts.epoch) hosts.accounts opened
     pub opens : Changes (OpensEach told hosts.epoch hosts.accounts opened) stores between
-    pub session : IsImapSession hosts start (IsLog (map share_of opened) (map share_of closed))
+    pub session : IsSessionOf hosts front (IsLog (map share_of opened) (map share_of closed))
         left left' written written' end
     pub continues : EachContinues opened closed
     pub owned : AreOwned closed
@@ -56,7 +65,7 @@ module _ {K : Type 0} (told : K → Option Told) (faults append_faults lists : K
     pub status_is : status ≡ exit_status end
 
   -- what the program does with the accounts of a table
-  pub data ServesTable (hosts : Hosts) (start : Option ℕ)
+  pub data ServesTable (hosts : Hosts) (front : Front)
       (stores stores' : Option (List (List ℕ × Option K)))
       (left left' written written' : Option (List ℕ)) (status : ℕ) : Type 0 where
     -- an account is not opened, or memory runs out for it; those before it are closed again
@@ -64,26 +73,26 @@ module _ {K : Type 0} (told : K → Option Told) (faults append_faults lists : K
         → Changes (RefusesFirst told hosts.epoch cause hosts.accounts) stores stores'
         → Keeps left left'
         → MayEndWith written written' (opening_line cause) (opening_status cause) status
-        → ServesTable hosts start stores stores' left left' written written' status
+        → ServesTable hosts front stores stores' left left' written written' status
     -- a session is served
-    served : ServesAccounts hosts start stores stores' left left' written written' status
-        → ServesTable hosts start stores stores' left left' written written' status
+    served : ServesAccounts hosts front stores stores' left left' written written' status
+        → ServesTable hosts front stores stores' left left' written written' status
 
-  -- what the program does with an accounts file, if this account is named, or none
-  pub data ServesFile (file : List ℕ) (epoch : ℕ) (account : Option (List ℕ))
+  -- what the program does with an accounts file, if it is asked for this session
+  pub data ServesFile (file : List ℕ) (epoch : ℕ) (session : HostedForm)
       (stores stores' : Option (List (List ℕ × Option K)))
       (left left' written written' : Option (List ℕ)) (status : ℕ) : Type 0 where
     -- the file is refused, or memory runs out for its table
     file_refused : (fault : AccountsError) → (fault ≡ NoMemory) ⊎ (refusal_of file ≡ Some fault)
         → stores' ≡ stores → Keeps left left'
         → MayEndWith written written' (file_line fault) (file_status fault) status
-        → ServesFile file epoch account stores stores' left left' written written' status
+        → ServesFile file epoch session stores stores' left left' written written' status
     -- the file has no account of the name
-    no_account : (name : List ℕ) → refusal_of file ≡ None → account ≡ Some name
-        → named (hosts_of file epoch).accounts name ≡ None → stores' ≡ stores
-        → Keeps left left' → MayEndWith written written' (no_account_line name) 8 status
-        → ServesFile file epoch account stores stores' left left' written written' status
+    no_account : (name : List ℕ) → refusal_of file ≡ None
+        → IsNobody (hosts_of file epoch) session name → stores' ≡ stores → Keeps left left'
+        → MayEndWith written written' (no_account_line name) 8 status
+        → ServesFile file epoch session stores stores' left left' written written' status
     -- the file has the account, if one is named
-    accepted : (hosts : Hosts) (start : Option ℕ) → Gives file epoch account hosts start
-        → ServesTable hosts start stores stores' left left' written written' status
-        → ServesFile file epoch account stores stores' left left' written written' status
+    accepted : (hosts : Hosts) (front : Front) → Gives file epoch session hosts front
+        → ServesTable hosts front stores stores' left left' written written' status
+        → ServesFile file epoch session stores stores' left left' written written' status

@@ -1,7 +1,5 @@
 pub mod Lines
 pub mod Ends
-pub mod Plain
-pub mod Owner
 pub mod Words
 pub mod Checking
 pub mod Hosting

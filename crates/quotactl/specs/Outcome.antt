@@ -15,11 +15,13 @@ use Rattle.accounts_file.specs.declared.error.AccountsError.{AccountsError}
 use Rattle.accounts_file.specs.Files.{hosts_of, refusal_of}
 use Rattle.accounts_file.specs.Hosts.{Hosts}
 use Rattle.desk.specs.Shares.{Share}
-use Rattle.imap_front.specs.Texts.{greeting}
+use Rattle.sessions.specs.declared.front.Front.{Front}
+use Rattle.sessions.specs.Fronts.{greeting_of}
+use Rattle.owner_sessions.specs.Owner.{session_over}
 use Rattle.quotactl.specs.Ends.{exit_status}
 use Rattle.quotactl.specs.Lines.{usage_line, file_line, file_status, no_account_line, opening_line, opening_status}
-use Rattle.quotactl.specs.Owner.{session_over}
-use Rattle.quotactl.specs.Hosting.{start_in}
+use Rattle.quotactl.specs.Words.{HostedForm, imap_of}
+use Rattle.quotactl.specs.Hosting.{front_in}
 
 -- what the program writes, and its status
 pub record Outcome : Type 0 where
@@ -41,19 +43,20 @@ pub record HasOutcome (written written' : Option (List ℕ)) (status : ℕ) (out
 abbrev pub usage_outcome : Outcome
 usage_outcome = record { text = usage_line; status = 1 }
 
--- a session of the owner of these shares
-abbrev pub session_outcome : Hosts → (start : Option ℕ) → List Share → List ℕ → Outcome
-session_outcome hosts start shares input = record {
-  text = greeting start ++ (session_over hosts start shares input).text;
-  status = exit_status (session_over hosts start shares input).end;
+-- a session of this front over accounts of the owner of these shares
+abbrev pub session_outcome : Hosts → Front → List Share → List ℕ → Outcome
+session_outcome hosts front shares input = record {
+  text = greeting_of front ++ (session_over hosts front shares input).text;
+  status = exit_status (session_over hosts front shares input).end;
 }
 
 abbrev pub file_refused_outcome : AccountsError → Outcome
 file_refused_outcome fault = record { text = file_line fault; status = file_status fault }
 
-abbrev pub no_account_outcome : Option (List ℕ) → Outcome
-no_account_outcome None = record { text = []; status = 8 }
-no_account_outcome (Some name) = record { text = no_account_line name; status = 8 }
+-- no account has the name that the session gives; a session that gives none does not come to this
+abbrev pub no_account_outcome : HostedForm → Outcome
+no_account_outcome (imap_of (Some name)) = record { text = no_account_line name; status = 8 }
+no_account_outcome session = record { text = []; status = 8 }
 
 abbrev pub not_opened_outcome : OpenError → Outcome
 not_opened_outcome cause = record { text = opening_line cause; status = opening_status cause }
@@ -105,17 +108,15 @@ module _ {K : Type 0} (told : K → Option Told) where
   }
 
   -- for the accounts of this table
-  abbrev pub table_outcome : Hosts → (start : Option ℕ) → List (List ℕ × Option K) → List ℕ
-      → Outcome
-  table_outcome hosts start accounts input =
+  abbrev pub table_outcome : Hosts → Front → List (List ℕ × Option K) → List ℕ → Outcome
+  table_outcome hosts front accounts input =
       or_else_outcome (first_refusal hosts.epoch accounts hosts.accounts) not_opened_outcome
-      (session_outcome hosts start (map (share_in hosts.epoch accounts) hosts.accounts) input)
+      (session_outcome hosts front (map (share_in hosts.epoch accounts) hosts.accounts) input)
 
-  -- for an accounts file, if this account is named, or none
-  abbrev pub file_outcome : List ℕ → ℕ → (account : Option (List ℕ)) → List (List ℕ × Option K)
-      → List ℕ → Outcome
-  file_outcome file epoch account accounts input =
+  -- for an accounts file, if this session is asked for
+  abbrev pub file_outcome : List ℕ → ℕ → HostedForm → List (List ℕ × Option K) → List ℕ → Outcome
+  file_outcome file epoch session accounts input =
       or_else_outcome (refusal_of file) file_refused_outcome
-      (or_else_outcome (start_in (hosts_of file epoch).accounts account)
-      (λ start. table_outcome (hosts_of file epoch) start accounts input)
-      (no_account_outcome account))
+      (or_else_outcome (front_in (hosts_of file epoch).accounts session)
+      (λ front. table_outcome (hosts_of file epoch) front accounts input)
+      (no_account_outcome session))

@@ -1,29 +1,23 @@
--- The arguments of the program.
-use Rattle.std.specs.Prelude.{◌≡◌, ◌≢◌, ◌≤◌, ◌<◌, ℕ, List, [], ◌∷◌, codes, slice_get, Option, Some, None}
+-- The sessions over the accounts of the accounts file that arguments ask for.
+use Rattle.std.specs.Prelude.{◌≡◌, ℕ, List, [], ◌∷◌, codes, Option}
 use Rattle.std.specs.Option.{option_copied}
-use Rattle.std.specs.Fmt.{decimal}
-use Rattle.quotactl.specs.declared.form.Form.{Form}
-use Rattle.quotactl.specs.declared.form.Form.TheVariants.{Session, Imap, Check}
+use Rattle.command_words.specs.Words.{IsImapForm}
+use Rattle.quotactl.specs.declared.accounts.HostSession.{HostSession}
+use Rattle.quotactl.specs.declared.accounts.HostSession.TheVariants.{Imap, Policy}
 
--- the arguments `session N`: N in decimal digits, with no sign and no leading zero
-pub record IsSessionForm (words : List (List ℕ)) (n : ℕ) : Type 0 where
-  pub words_are : words ≡ codes "session" ∷ decimal n ∷ []
-  pub some : 0 < n
-  pub bounded : n ≤ 8796093022207
+-- a session over the accounts of the accounts file
+pub data HostedForm : Type 0 where
+  -- of IMAP; if an account is named, its owner is logged in at the start
+  imap_of : (account : Option (List ℕ)) → HostedForm
+  -- of the policy protocol
+  policy_socket : HostedForm
 
--- the arguments `imap`, or `imap ACCOUNT`; the name of the account does not begin with `-`
-abbrev pub IsImapForm : List (List ℕ) → (account : Option (List ℕ)) → Type 0
-IsImapForm words None = words ≡ codes "imap" ∷ []
-IsImapForm words (Some name) = (words ≡ codes "imap" ∷ name ∷ []) × (slice_get name 0 ≢ Some 45)
+-- the arguments ask for this session
+abbrev pub IsHostedForm : List (List ℕ) → HostedForm → Type 0
+IsHostedForm words (imap_of account) = IsImapForm words account
+IsHostedForm words policy_socket = words ≡ codes "policy" ∷ []
 
--- the arguments have this form
-abbrev pub IsForm : List (List ℕ) → Form → Type 0
-IsForm words (Session n) = IsSessionForm words n
-IsForm words (Imap account) = IsImapForm words (option_copied account)
-IsForm words Check = words ≡ codes "check" ∷ []
-
--- the arguments are unrecognised: they have none of the forms
-pub record IsNoForm (words : List (List ℕ)) : Type 0 where
-  pub no_session : (n : ℕ) → IsSessionForm words n → ⊥
-  pub no_imap : (account : Option (List ℕ)) → IsImapForm words account → ⊥
-  pub no_check : words ≢ codes "check" ∷ []
+-- the session that the code's `HostSession` stands for
+abbrev pub hosted_form : HostSession → HostedForm
+hosted_form (Imap account) = imap_of (option_copied account)
+hosted_form Policy = policy_socket

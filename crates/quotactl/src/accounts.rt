@@ -1,10 +1,10 @@
 // A session over the accounts of an accounts file.
-ghost use Rattle.std.specs.Prelude.{◌≡◌, ◌≤◌};
-ghost use Rattle.std.specs.Option.{option_copied};
+ghost use Rattle.std.specs.Prelude.{◌≡◌, ◌≤◌, Some, IfOk, IfErr};
 ghost use Rattle.quota_units.specs.Causes.{HasCause, Rose};
-ghost use Rattle.imap_front.specs.Serving.{IsLogin};
+ghost use Rattle.front_core.specs.Desks.{IsLogin};
 ghost use Rattle.sessions.specs.Fronts.{start_of};
-ghost use Rattle.quotactl.specs.Hosting.{ServesTable, ServesFile};
+ghost use Rattle.quotactl.specs.Hosting.{IsNobody, ServesTable, ServesFile, front_in};
+ghost use Rattle.quotactl.specs.Words.{hosted_form};
 
 use crate::lines::{refuse_account, refuse_file, refuse_opening};
 use crate::status::status;
@@ -15,6 +15,15 @@ use plain_desk::PlainDesk;
 use sessions::{Front, run_session};
 use std::alloc::Global;
 use wire_io::{Sink, Source};
+
+/// A session over the accounts of an accounts file.
+#[derive(Clone, Copy)]
+pub enum HostSession<'a> {
+    /// A session of IMAP. If an account is named, its owner is logged in at the start.
+    Imap { account: Option<&'a [u8]> },
+    /// A session of the policy protocol.
+    Policy,
+}
 
 /// Opens the accounts of the table, serves a session over them, closes them, and returns the exit
 /// status.
@@ -30,7 +39,7 @@ where
     M::K: Drop,
     requires { IsLogin table.now (start_of front) }
     ensures serves { ServesTable M.K.told M.K.faults M.K.append_faults M.K.lists table.now
-        (start_of front) (M.told stores.old) (M.told stores.new) (S.left source.old)
+        front (M.told stores.old) (M.told stores.new) (S.left source.old)
         (S.left source.new) (O.written sink.old) (O.written sink.new) result }
     ensures read_cause { HasCause (result ≡ 4) (S.faults source.old) (S.faults source.new) }
     ensures write_cause { HasCause (result ≡ 5) (O.faults sink.old) (O.faults sink.new) }
@@ -48,11 +57,33 @@ where
     status(end)
 }
 
-/// Serves a session of IMAP over the accounts of an accounts file, and returns the exit status. If
-/// an account is named, its owner is logged in at the start.
+/// The front of a session over the accounts of the table.
+///
+/// # Errors
+///
+/// The name that the session gives, if no account has it.
+fn front_for<'a>(table: &HostTable, session: HostSession<'a>) -> Result<Front, &'a [u8]>
+    ensures front { IfOk result (λ front.
+        front_in table.now.accounts (hosted_form session.entry) ≡ Some front) }
+    ensures login { IfOk result (λ front. IsLogin table.now (start_of front)) }
+    ensures none { IfErr result (λ name. IsNobody table.now (hosted_form session.entry) name.now) }
+{
+    match session {
+        HostSession::Imap { account: None } => Ok(Front::Imap),
+        HostSession::Imap {
+            account: Some(name),
+        } => match table.named(name) {
+            Some(number) => Ok(Front::ImapAs(number)),
+            None => Err(name),
+        },
+        HostSession::Policy => Ok(Front::Policy),
+    }
+}
+
+/// Serves this session over the accounts of an accounts file, and returns the exit status.
 pub fn serve_file<M: Stores, S: Source, O: Sink>(
     alloc: Global,
-    account: Option<&[u8]>,
+    session: HostSession<'_>,
     file: &[u8],
     stores: &mut M,
     epoch: u64,
@@ -62,7 +93,7 @@ pub fn serve_file<M: Stores, S: Source, O: Sink>(
 where
     M::K: Drop,
     ensures serves { ServesFile M.K.told M.K.faults M.K.append_faults M.K.lists file.now epoch
-        (option_copied account.entry) (M.told stores.old) (M.told stores.new) (S.left source.old)
+        (hosted_form session.entry) (M.told stores.old) (M.told stores.new) (S.left source.old)
         (S.left source.new) (O.written sink.old) (O.written sink.new) result }
     ensures read_cause { HasCause (result ≡ 4) (S.faults source.old) (S.faults source.new) }
     ensures write_cause { HasCause (result ≡ 5) (O.faults sink.old) (O.faults sink.new) }
@@ -73,12 +104,8 @@ where
         Ok(table) => table,
         Err(fault) => return refuse_file(alloc, &fault, sink),
     };
-    let front = match account {
-        None => Front::Imap,
-        Some(name) => match table.named(name) {
-            Some(number) => Front::ImapAs(number),
-            None => return refuse_account(alloc, name, sink),
-        },
-    };
-    serve_table(alloc, front, &table, stores, source, sink)
+    match front_for(&table, session) {
+        Ok(front) => serve_table(alloc, front, &table, stores, source, sink),
+        Err(name) => refuse_account(alloc, name, sink),
+    }
 }

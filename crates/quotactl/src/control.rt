@@ -1,20 +1,22 @@
 // The program over its arguments, an accounts file, stores, a source and a sink.
-ghost use Rattle.std.specs.Prelude.{◌≡◌, ◌≤◌, ◌<◌, ℕ, List, [], ◌∷◌, map, take, codes, Option, Some, IfSome};
+ghost use Rattle.std.specs.Prelude.{◌≡◌, ◌≢◌, ◌≤◌, ◌<◌, ℕ, List, [], ◌∷◌, map, take, codes, Option, Some, IfSome};
 ghost use Rattle.std.specs.String.{string_bytes};
 ghost use Rattle.std.specs.Io.KnownBytes.{Appends};
 ghost use Rattle.quota_units.specs.Causes.{HasCause, Rose};
-ghost use Rattle.quotactl.specs.Words.{IsSessionForm, IsImapForm, IsNoForm};
+ghost use Rattle.command_words.specs.Words.{IsSessionForm, IsNoForm};
+ghost use Rattle.quotactl.specs.Words.{IsHostedForm, HostedForm};
 ghost use Rattle.quotactl.specs.Checking.{Reports, max_checked};
 ghost use Rattle.quotactl.specs.Outcome.{HasOutcome, HaveNoneDue, IsUnbroken, file_outcome, session_outcome, usage_outcome};
+ghost use Rattle.sessions.specs.declared.front.Front.TheVariants.{ImapAs};
 ghost use Rattle.quotactl.specs.Control.{Runs, Controls, hosts_with, fresh};
 
-use crate::accounts::serve_file;
+use crate::accounts::{HostSession, serve_file};
 use crate::check::check;
-use crate::form::{Form, form_of};
 use crate::lines::refuse_words;
-use crate::plain::open_desk;
 use crate::status::{NO_MEMORY, status};
+use command_words::{Form, form_of};
 use keeper::Stores;
+use owner_sessions::open_plain;
 use quota_units::{Limits, NoMemory};
 use sessions::{Front, run_session};
 use std::alloc::Global;
@@ -33,7 +35,7 @@ fn run<S: Source, O: Sink>(alloc: Global, units: u64, source: &mut S, sink: &mut
     let Some(limits) = Limits::new(Some(1024 * units), None) else {
         unreachable!()
     };
-    match open_desk(alloc, limits) {
+    match open_plain(alloc, limits) {
         Ok((table, mut desk)) => {
             let end = run_session(alloc, Front::ImapAs(0), &table, &mut desk, source, sink);
             desk.show_owned();
@@ -50,7 +52,7 @@ fn run<S: Source, O: Sink>(alloc: Global, units: u64, source: &mut S, sink: &mut
 /// owner of an account with N units of storage of 1024 octets; N is from 1 to 8796093022207, in
 /// decimal digits with no leading zero. `imap` serves a session of IMAP over the accounts of the
 /// accounts file, and `imap ACCOUNT` one in which the owner of that account is logged in at the
-/// start. `accounts` are the bytes of the file, `stores` have the accounts' mailboxes and ledgers,
+/// start. `policy` serves a session of the policy protocol over them. `accounts` are the bytes of the file, `stores` have the accounts' mailboxes and ledgers,
 /// and `epoch` is the second in which they are opened. `check` says what a ledger holds. For any
 /// other arguments the program writes the usage line.
 ///
@@ -76,9 +78,9 @@ where
         (map string_bytes words.now) accounts.now epoch (M.told stores.old) (M.told stores.new)
         (S.left source.old) (S.left source.new) (O.written sink.old) (O.written sink.new) result }
 
-    // Only `imap` uses the stores.
-    ensures untouched { ((account : Option (List ℕ))
-        → IsImapForm (map string_bytes words.now) account → ⊥) → stores.new ≡ stores.old }
+    // Only a session over the accounts of the file uses the stores.
+    ensures untouched { ((session : HostedForm) → IsHostedForm (map string_bytes words.now) session → ⊥)
+        → stores.new ≡ stores.old }
 
     // Status 4 means that a read failed, and status 5 that a write failed. No other failure is
     // counted. Status 7 means that the stores failed.
@@ -94,32 +96,38 @@ where
         (Rose (S.faults source.old) (S.faults source.new))
         (Rose (O.faults sink.old) (O.faults sink.new)) result
         → HasOutcome (O.written sink.old) (O.written sink.new) result
-        (session_outcome (hosts_with n) (Some 0) (fresh n) input)) }
-    ensures accounts_output { (account : Option (List ℕ))
-        → IsImapForm (map string_bytes words.now) account
+        (session_outcome (hosts_with n) (ImapAs 0) (fresh n) input)) }
+    ensures accounts_output { (session : HostedForm)
+        → IsHostedForm (map string_bytes words.now) session
         → IfSome (M.told stores.old) (λ told. HaveNoneDue M.K.told told
         → (Rose (M.faults stores.old) (M.faults stores.new) → ⊥)
         → IfSome (S.left source.old) (λ input. IsUnbroken
         (Rose (S.faults source.old) (S.faults source.new))
         (Rose (O.faults sink.old) (O.faults sink.new)) result
         → HasOutcome (O.written sink.old) (O.written sink.new) result
-        (file_outcome M.K.told accounts.now epoch account told input))) }
+        (file_outcome M.K.told accounts.now epoch session told input))) }
     ensures check_output { map string_bytes words.now ≡ codes "check" ∷ []
         → IfSome (S.left source.old) (λ input. IsUnbroken
         (Rose (S.faults source.old) (S.faults source.new))
         (Rose (O.faults sink.old) (O.faults sink.new)) result
         → (text : List ℕ) × Reports (take max_checked input) text result
         × Appends (O.written sink.old) (O.written sink.new) text) }
-    ensures usage_output { IsNoForm (map string_bytes words.now)
+    ensures usage_output { IsNoForm (map string_bytes words.now) → result ≢ 6
         → (Rose (O.faults sink.old) (O.faults sink.new) → ⊥)
         → HasOutcome (O.written sink.old) (O.written sink.new) result usage_outcome }
 {
-    match form_of(words) {
-        Some(Form::Session { units }) => run(alloc, units, source, sink),
-        Some(Form::Imap { account }) => {
-            serve_file(alloc, account, accounts, stores, epoch, source, sink)
+    match form_of(alloc, words) {
+        Ok(Some(Form::Session { units })) => run(alloc, units, source, sink),
+        Ok(Some(Form::Imap { account })) => {
+            let session = HostSession::Imap { account };
+            serve_file(alloc, session, accounts, stores, epoch, source, sink)
         }
-        Some(Form::Check) => check(alloc, source, sink),
-        None => refuse_words(sink),
+        Ok(Some(Form::Policy)) => {
+            let session = HostSession::Policy;
+            serve_file(alloc, session, accounts, stores, epoch, source, sink)
+        }
+        Ok(Some(Form::Check)) => check(alloc, source, sink),
+        Ok(None) => refuse_words(sink),
+        Err(NoMemory) => NO_MEMORY,
     }
 }

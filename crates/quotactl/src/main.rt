@@ -4,9 +4,7 @@
 mod accounts;
 mod check;
 mod control;
-mod form;
 mod lines;
-mod plain;
 mod status;
 
 use control::control;

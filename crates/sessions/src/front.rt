@@ -5,4 +5,6 @@ pub enum Front {
     Imap,
     /// IMAP, with the owner of the account of this number logged in.
     ImapAs(u32),
+    /// The policy protocol of Postfix (SMTPD_POLICY_README), with requests of this project's own.
+    Policy,
 }

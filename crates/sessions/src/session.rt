@@ -1,16 +1,16 @@
 // A session of any front.
 ghost use Rattle.std.specs.Prelude.{◌≡◌, ◌≢◌, ◌⊎◌, IfSome};
 ghost use Rattle.quota_units.specs.Causes.{HasCause, Rose};
-ghost use Rattle.wire_io.specs.Session.{EndsAsDecided};
 ghost use Rattle.desk.specs.Logs.{IsLog, IsRepliedLog};
 ghost use Rattle.desk.specs.Shares.{HaveNoFailure};
-ghost use Rattle.imap_front.specs.Serving.{input_limit, IsDeskOf, IsLogin};
-ghost use Rattle.sessions.specs.Fronts.{start_of, protocol_of, IsSessionOf};
+ghost use Rattle.front_core.specs.Desks.{IsDeskOf, IsLogin};
+ghost use Rattle.sessions.specs.Fronts.{start_of, IsSessionOf, EndsAsInputDecides};
 
 use crate::front::Front;
 use accounts_file::HostTable;
 use desk::Desk;
 use imap_front::run_imap;
+use policy_front::run_policy;
 use std::alloc::Global;
 use wire_io::{SessionEnd, Sink, Source};
 
@@ -53,12 +53,13 @@ pub fn run_session<S: Source, O: Sink, D: Desk>(
 
     // The input decides an end. The session has that end unless something failed or memory ran out.
     ensures decided { IfSome (S.left source.old) (λ input.
-        EndsAsDecided (protocol_of table.now front) (start_of front) input_limit input
+        EndsAsInputDecides table.now front input
         (Rose (S.faults source.old) (S.faults source.new)
         ⊎ Rose (O.faults sink.old) (O.faults sink.new)) result) }
 {
     match front {
         Front::Imap => run_imap(alloc, None, table, desk, source, sink),
         Front::ImapAs(account) => run_imap(alloc, Some(account), table, desk, source, sink),
+        Front::Policy => run_policy(alloc, table, desk, source, sink),
     }
 }

@@ -13,7 +13,7 @@ use Rattle.account_ledger.specs.Stores.{Agree, fresh_scan, standing_at}
 use Rattle.accounts_file.specs.declared.entry.AccountEntry.{AccountEntry}
 use Rattle.accounts_file.specs.Hosts.{Hosts}
 use Rattle.desk.specs.Shares.{HaveNoFailure, share_at}
-use Rattle.imap_front.specs.Serving.{IsDeskOf, IsOpenedAs}
+use Rattle.front_core.specs.Desks.{IsDeskOf, IsOpenedAs}
 use Rattle.plain_desk.specs.Continuing.{EachContinues, HasNoneDue, HasRoom}
 use Rattle.plain_desk.specs.Owning.{AreOwned, IsOwned, share_of}
 use Rattle.plain_desk.proofs.Asked.{none_due_no_failures}

@@ -2,13 +2,12 @@
 ghost use Rattle.std.specs.Prelude.{◌≡◌, ◌⊎◌, map, IfSome};
 ghost use Rattle.std.specs.List.{All};
 ghost use Rattle.quota_units.specs.Causes.{HasCause, Rose};
-ghost use Rattle.wire_io.specs.Session.{EndsAsDecided};
 ghost use Rattle.desk.specs.Logs.{IsLog, IsRepliedLog};
 ghost use Rattle.desk.specs.Shares.{HaveNoFailure};
-ghost use Rattle.imap_front.specs.Serving.{input_limit, IsDeskOf, IsLogin};
+ghost use Rattle.front_core.specs.Desks.{IsDeskOf, IsLogin};
 ghost use Rattle.plain_desk.specs.Continuing.{EachContinues, HasNoneDue, HasRoom};
 ghost use Rattle.plain_desk.specs.Owning.{AreOwned, share_of};
-ghost use Rattle.sessions.specs.Fronts.{IsSessionOf, protocol_of, start_of};
+ghost use Rattle.sessions.specs.Fronts.{IsSessionOf, EndsAsInputDecides, start_of};
 ghost use Rattle.tests_of_desks.specs.Headline.{HasFreshSums, HasLegalHistory};
 
 use accounts_file::HostTable;
@@ -60,7 +59,7 @@ pub(crate) fn session_of_the_owner<K: Keeper, S: Source, O: Sink>(
     ensures write_cause { HasCause (result ≡ SessionEnd.WriteFault)
         (O.faults sink.old) (O.faults sink.new) }
     ensures decided { IfSome (S.left source.old) (λ input.
-        EndsAsDecided (protocol_of table.now front) (start_of front) input_limit input
+        EndsAsInputDecides table.now front input
         (Rose (S.faults source.old) (S.faults source.new)
         ⊎ Rose (O.faults sink.old) (O.faults sink.new)) result) }
 {

@@ -12,6 +12,8 @@ mod opening;
 #[cfg(test)]
 mod plain;
 #[cfg(test)]
+mod policy;
+#[cfg(test)]
 mod three_accounts;
 #[cfg(test)]
 mod watching;

@@ -1,6 +1,6 @@
 // Sessions of IMAP over a desk of one account.
 ghost use Rattle.std.specs.Prelude.{◌≡◌, ◌<◌, length, map, IfOk, IfSome};
-ghost use Rattle.imap_front.specs.Serving.{IsDeskOf};
+ghost use Rattle.front_core.specs.Desks.{IsDeskOf};
 ghost use Rattle.plain_desk.specs.Owning.{share_of};
 ghost use Rattle.sessions.specs.Fronts.{start_of};
 
@@ -41,7 +41,7 @@ storage = 512
 
 /// A session: the account, whether its owner is logged in at the start, what is sent, what is
 /// written, and the end.
-type Row = (&'static str, bool, &'static [u8], &'static [u8], SessionEnd);
+pub(crate) type Row = (&'static str, bool, &'static [u8], &'static [u8], SessionEnd);
 
 static SESSIONS: [Row; 8] = [
     // Commands before, during and after a login.
@@ -129,7 +129,7 @@ const THEN_TOLD: &[u8] = b"* PREAUTH quotad ready\r\n+ Ready\r\na1 OK APPEND com
 * QUOTA \"\" (STORAGE 1 512)\r\na2 OK GETQUOTA completed\r\n";
 
 /// The desk of the account of a table, over this keeper.
-fn open_desk<K: Keeper + Drop>(
+pub(crate) fn open_desk<K: Keeper + Drop>(
     alloc: Global,
     table: &HostTable,
     keeper: K,

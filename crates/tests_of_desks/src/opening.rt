@@ -1,7 +1,7 @@
 // Opening accounts of a table.
 ghost use Rattle.std.specs.Prelude.{◌≡◌, ◌<◌, length, slice_get, Some, IfOk};
 ghost use Rattle.accounts_file.specs.declared.entry.AccountEntry.{AccountEntry};
-ghost use Rattle.imap_front.specs.Serving.{IsOpenedAs};
+ghost use Rattle.front_core.specs.Desks.{IsOpenedAs};
 ghost use Rattle.plain_desk.specs.Owning.{IsFresh, share_of};
 
 use account_ledger::AccountState;

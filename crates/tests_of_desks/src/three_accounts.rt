@@ -1,6 +1,6 @@
 // Sessions over a desk of three accounts.
 ghost use Rattle.std.specs.Prelude.{◌≡◌, ◌<◌, length, map, IfOk, IfSome};
-ghost use Rattle.imap_front.specs.Serving.{IsDeskOf};
+ghost use Rattle.front_core.specs.Desks.{IsDeskOf};
 ghost use Rattle.plain_desk.specs.Owning.{share_of};
 ghost use Rattle.sessions.specs.Fronts.{start_of};
 

@@ -1,8 +1,12 @@
 // The octets that a keeper is given to put.
-use crate::one_account::{account_after, front_of};
+ghost use Rattle.std.specs.Prelude.{◌<◌, IfSome};
+ghost use Rattle.sessions.specs.Fronts.{start_of};
+
+use crate::one_account::{Row, account_after, front_of};
 use accounts_file::plain_table;
 use keeper::{FileRow, FixedKeeper, KeepError, Keeper};
 use quota_units::{Failed, Limits};
+use sessions::Front;
 use std::alloc::Global;
 use std::test::Fail;
 use wire_io::SessionEnd;
@@ -87,24 +91,40 @@ const DELIVERED: &[u8] = b"* PREAUTH quotad ready\r\n\
 + Ready\r\na2 OK APPEND completed\r\n\
 + Ready\r\n";
 
+/// The same by the policy protocol.
+const POLICY_DELIVERIES: &[u8] = b"request=quotad_deliver\naccount=main\noctets=26\n\n\
+\x00\r\n.\r\na2 LOGOUT\r\n+ {3}\r\n\xff\n\
+request=quotad_deliver\naccount=main\noctets=1\n\n!\
+request=quotad_deliver\naccount=main\noctets=4\n\nabc";
+
+const POLICY_DELIVERED: &[u8] = b"action=delivered 0.1.quotad\n\naction=delivered 0.2.quotad\n\n";
+
+/// The octets that a keeper is given in a session of this front.
+fn given_in(alloc: Global, front: Front, row: &Row, piece: usize) -> Result<Vec<u8>, Fail>
+    requires { IfSome (start_of front) (λ account. account < 1) }
+{
+    let limits = Limits::new(Some(524288), None).ok_or("limits in range")?;
+    let table = plain_table(alloc, limits)?;
+    let keeper = WatchingKeeper {
+        inner: FixedKeeper::new(alloc)?,
+        given: Vec::new(alloc),
+    };
+    let state = account_after(alloc, front, &table, keeper, row, piece)?;
+    Ok(state.into_keeper().given)
+}
+
 #[test]
 fn a_keeper_is_given_the_octets_that_were_sent(rt: HostRuntime) -> Result<(), Fail> {
     let alloc = rt.alloc();
+    let end = SessionEnd::Truncated { at: 82 };
+    let appended = ("", true, DELIVERIES, DELIVERED, end);
+    let end = SessionEnd::Truncated { at: 120 };
+    let delivered = ("", true, POLICY_DELIVERIES, POLICY_DELIVERED, end);
     for piece in [1, 7, 4096] {
-        let limits = Limits::new(Some(524288), None).ok_or("limits in range")?;
-        let table = plain_table(alloc, limits)?;
-        let keeper = WatchingKeeper {
-            inner: FixedKeeper::new(alloc)?,
-            given: Vec::new(alloc),
-        };
-        let end = SessionEnd::Truncated { at: 82 };
-        let row = ("", true, DELIVERIES, DELIVERED, end);
-        let state = account_after(alloc, front_of(true), &table, keeper, &row, piece)?;
-        assert_eq!(rt;
-            state.into_keeper().given.as_slice(),
-            MESSAGES,
-            "pieces of {piece}"
-        );
+        let given = given_in(alloc, front_of(true), &appended, piece)?;
+        assert_eq!(rt; given.as_slice(), MESSAGES, "pieces of {piece}");
+        let given = given_in(alloc, Front::Policy, &delivered, piece)?;
+        assert_eq!(rt; given.as_slice(), MESSAGES, "pieces of {piece}");
     }
     Ok(())
 }

@@ -1,5 +1,5 @@
-//! Tests of the texts that are read and written: ledgers, file names, IMAP commands and accounts
-//! files.
+//! Tests of the texts that are read and written: ledgers, file names, IMAP commands, policy requests
+//! and accounts files.
 #![tactic(auto)]
 
 #[cfg(test)]
@@ -10,3 +10,5 @@ mod commands;
 mod file_names;
 #[cfg(test)]
 mod ledgers;
+#[cfg(test)]
+mod policy;

@@ -3,16 +3,15 @@ use Rattle.std.proofs.KnownBytes.{Keeps-refl}
 use Rattle.account_ledger.specs.States.{State}
 use Rattle.desk.specs.Logs.{IsLog}
 use Rattle.keeper.specs.Calls.{Changes}
-use Rattle.wire_io.specs.Serving.{IsSession}
 use Rattle.host_opening.specs.Opening.{WasOpened}
 use Rattle.host_opening.specs.Closing.{ClosesEach}
 use Rattle.plain_desk.specs.Continuing.{Continues, EachContinues}
 use Rattle.plain_desk.specs.Owning.{share_of}
-use Rattle.imap_front.specs.Serving.{IsDeskOf, input_limit}
-use Rattle.sessions.specs.Fronts.{greeting_of, protocol_of, start_of}
+use Rattle.front_core.specs.Desks.{IsDeskOf}
+use Rattle.sessions.specs.Fronts.{IsSessionOf}
 use Rattle.quotactl.specs.Hosting.{not_opened, served}
 use Rattle.quotactl.specs.Lines.{opening_line, opening_status}
-use Rattle.quotactl.proofs.Hosting.{all_fresh, as_many, no_seven, not_four, not_read, of_seven, opened_desk, speaks_imap, three_statuses}
+use Rattle.quotactl.proofs.Hosting.{all_fresh, as_many, no_seven, not_four, not_read, of_seven, opened_desk, three_statuses}
 use Rattle.quotactl.proofs.accounts.serve_table.Goals as goal
 
 pub returns-in-Err : goal.returns-in-Err
@@ -65,10 +64,8 @@ returns-clause-serves g c =
       were_opened = c.in-Ok.ensures.opened;
       opens = c.in-Ok.ensures.opens;
       session =
-          subst (λ p. IsSession p (greeting_of c.args.front) (start_of c.args.front) input_limit (IsLog (map share_of opened) (map share_of closed)) left left' written written' end)
-          (speaks_imap hosts c.args.front)
-          (subst (λ (states : List State). IsSession (protocol_of hosts c.args.front) (greeting_of c.args.front) (start_of c.args.front) input_limit (IsLog (map share_of states) (map share_of closed)) left left' written written' end)
-          c.new-desk.ensures c.run_session-end.ensures.session);
+          subst (λ (states : List State). IsSessionOf hosts c.args.front (IsLog (map share_of states) (map share_of closed)) left left' written written' end)
+          c.new-desk.ensures c.run_session-end.ensures.session;
       continues = subst (λ (states : List State). EachContinues states closed) c.new-desk.ensures c.run_session-end.ensures.leads;
       owned = c.into_states.ensures.owned;
       closes = subst (λ (states : List State). Changes (ClosesEach g.M.K.Keeper.told g.M.K.Keeper.faults g.M.K.Keeper.append_faults g.M.K.Keeper.lists hosts.accounts states) between (g.M.Stores.told c.close_accounts.new.stores))

@@ -4,10 +4,11 @@ use Rattle.accounts_file.specs.Hosts.{Hosts, plain_hosts}
 use Rattle.desk.specs.Shares.{Share}
 use Rattle.plain_desk.specs.Owning.{share_of}
 use Rattle.desk.specs.Logs.{IsLog}
-use Rattle.imap_front.specs.Serving.{IsImapSession}
-use Rattle.quotactl.specs.Plain.{plain_share}
+use Rattle.sessions.specs.declared.front.Front.TheVariants.{ImapAs}
+use Rattle.sessions.specs.Fronts.{IsSessionOf}
+use Rattle.owner_sessions.specs.Plain.{plain_share}
+use Rattle.owner_sessions.proofs.Alone.{all_undisturbed}
 use Rattle.quotactl.specs.Control.{served, fresh, hosts_with, units_of_storage}
-use Rattle.quotactl.proofs.Alone.{all_undisturbed}
 use Rattle.quotactl.proofs.control.run.Goals as goal
 
 pub returns-in-Ok-clause-runs : goal.returns-in-Ok-clause-runs
@@ -21,7 +22,7 @@ returns-in-Ok-clause-runs g c =
     let shares' = map share_of c.run_session-end.new.desk in
     let s = c.run_session-end in
     served shares' s.result
-    (subst (λ (h : Hosts). IsImapSession h (Some 0) (IsLog (fresh n) shares') (left c.args.source.now) (left s.new.source) (written c.args.sink.now) (written s.new.sink) s.result) table
-    (subst (λ (x : List Share). IsImapSession c.in-Ok.table (Some 0) (IsLog x shares') (left c.args.source.now) (left s.new.source) (written c.args.sink.now) (written s.new.sink) s.result) shares s.ensures.session))
+    (subst (λ (h : Hosts). IsSessionOf h (ImapAs 0) (IsLog (fresh n) shares') (left c.args.source.now) (left s.new.source) (written c.args.sink.now) (written s.new.sink) s.result) table
+    (subst (λ (x : List Share). IsSessionOf c.in-Ok.table (ImapAs 0) (IsLog x shares') (left c.args.source.now) (left s.new.source) (written c.args.sink.now) (written s.new.sink) s.result) shares s.ensures.session))
     (all_undisturbed c.in-Ok.desk s.new.desk c.in-Ok.ensures.never_fails s.ensures.leads (record { each = c.show_owned.ensures.each; few = c.show_owned.ensures.few }))
     c.status.ensures.value

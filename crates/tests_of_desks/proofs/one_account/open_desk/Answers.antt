@@ -1,7 +1,7 @@
 use Rattle.std.proofs.Common.{rules, ◌≡◌, List, [], ◌∷◌, ◌++◌, length, map, sym, ap, ◌∙◌, subst}
 use Rattle.account_ledger.specs.States.{State}
 use Rattle.plain_desk.specs.Owning.{share_of}
-use Rattle.imap_front.specs.Serving.{IsDeskOf}
+use Rattle.front_core.specs.Desks.{IsDeskOf}
 use Rattle.tests_of_desks.proofs.OwnerLemmas.{one_fits}
 use Rattle.tests_of_desks.proofs.one_account.open_desk.Goals as goal
 

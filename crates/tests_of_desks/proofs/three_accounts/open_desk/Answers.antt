@@ -2,7 +2,7 @@ use Rattle.std.proofs.Common.{rules, ◌≡◌, List, [], ◌∷◌, ◌++◌, l
 use Rattle.std.proofs.lemmas.List.Elements.{All-push}
 use Rattle.account_ledger.specs.States.{State}
 use Rattle.plain_desk.specs.Owning.{IsFresh, share_of}
-use Rattle.imap_front.specs.Serving.{IsDeskOf}
+use Rattle.front_core.specs.Desks.{IsDeskOf}
 use Rattle.tests_of_desks.proofs.OwnerLemmas.{three_fit}
 use Rattle.tests_of_desks.proofs.three_accounts.open_desk.Goals as goal
 

@@ -1,0 +1,11 @@
+pub mod Attributes
+pub mod Texts
+pub mod Requests
+pub mod Answers
+pub mod Policy
+pub mod Taking
+pub mod Serving
+pub mod Filling
+pub mod Filled
+pub mod OneWay
+pub mod Wording
