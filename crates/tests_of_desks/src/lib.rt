@@ -17,3 +17,5 @@ mod policy;
 mod three_accounts;
 #[cfg(test)]
 mod watching;
+#[cfg(test)]
+mod working_day;

@@ -7,7 +7,7 @@ ghost use Rattle.sessions.specs.Fronts.{start_of};
 use crate::headline::session_of_the_owner;
 use crate::opening::open_account;
 use accounts_file::{HostTable, read_accounts};
-use keeper::FixedKeeper;
+use keeper::{FixedKeeper, Keeper};
 use plain_desk::PlainDesk;
 use sessions::Front;
 use std::alloc::Global;
@@ -58,8 +58,14 @@ a1 BAD Not authenticated\r\n\
 a2 BAD Not authenticated\r\n\
 * BYE quotad closing\r\na3 OK LOGOUT completed\r\n";
 
-/// The desk of the table's three accounts.
-fn open_desk(alloc: Global, table: &HostTable) -> Result<PlainDesk<FixedKeeper>, Fail>
+/// The desk of the table's three accounts, over these keepers.
+pub(crate) fn open_desk<K: Keeper + Drop>(
+    alloc: Global,
+    table: &HostTable,
+    first: K,
+    second: K,
+    third: K,
+) -> Result<PlainDesk<K>, Fail>
     ensures desk { IfOk result (λ desk. IsDeskOf table.now (map share_of desk)) }
     ensures three { IfOk result (λ desk. length table.now.accounts ≡ 3) }
 {
@@ -67,9 +73,9 @@ fn open_desk(alloc: Global, table: &HostTable) -> Result<PlainDesk<FixedKeeper>,
         return Err("not three accounts".into());
     }
     let mut states = Vec::new(alloc);
-    states.push(open_account(alloc, table, 0, FixedKeeper::new(alloc)?)?)?;
-    states.push(open_account(alloc, table, 1, FixedKeeper::new(alloc)?)?)?;
-    states.push(open_account(alloc, table, 2, FixedKeeper::new(alloc)?)?)?;
+    states.push(open_account(alloc, table, 0, first)?)?;
+    states.push(open_account(alloc, table, 1, second)?)?;
+    states.push(open_account(alloc, table, 2, third)?)?;
     Ok(PlainDesk::new(states))
 }
 
@@ -81,7 +87,8 @@ fn calls_of(alloc: Global, front: Front, expected: &[u8]) -> Result<[u32; 3], Fa
         Ok(table) => table,
         Err(fault) => return Err(fault.into()),
     };
-    let mut desk = open_desk(alloc, &table)?;
+    let (first, second) = (FixedKeeper::new(alloc)?, FixedKeeper::new(alloc)?);
+    let mut desk = open_desk(alloc, &table, first, second, FixedKeeper::new(alloc)?)?;
     let mut source = MemSource::new(INPUT.to_vec(alloc)?, 7, Vec::new(alloc));
     let mut sink = MemSink::new(alloc, 5, 4096, Vec::new(alloc))?;
     let end = session_of_the_owner(alloc, front, &table, &mut desk, &mut source, &mut sink);
