@@ -1,5 +1,6 @@
 -- What clauses say of a lock and its passes.
 use Rattle.std.specs.Prelude.{◌≡◌, ℕ, ◌≤◌, false, [], ◌∷◌}
+use Rattle.account_core.specs.Histories.{Origin}
 use Rattle.account_lock.specs.Known.{View, resting}
 use Rattle.account_lock.specs.Ties.{head_view}
 use Rattle.account_lock.specs.declared.pass.Pass.{Pass}
@@ -24,8 +25,13 @@ module _ {A : Type 0} where
   abbrev pub limit_of : Lock A → ℕ
   limit_of lock = lock.callers
 
+  -- where the history of the lock's value begins
+  abbrev pub origin_of : Lock A → Origin
+  origin_of lock = lock.table.shared.key.0
+
   -- the pass belongs to this lock and is at rest
   abbrev pub IsOf : Lock A → Pass → Type 0
   IsOf lock pass = (pass.badge.table_id ≡ lock.table.shared.table_id) × (pass.badge.views
       ≡ view pass ∷ []) × ((view pass).stage ≡ resting) × ((view pass).limit ≡ lock.callers)
       × ((view pass).made ≤ lock.callers) × ((view pass).pending ≡ false)
+      × ((view pass).origin ≡ origin_of lock)

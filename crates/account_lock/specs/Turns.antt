@@ -5,6 +5,7 @@ use Rattle.account_lock.specs.Known.{View, serving}
 use Rattle.account_lock.specs.declared.pass.Pass.{Pass}
 use Rattle.account_lock.specs.declared.turn.Turn.{Turn}
 use Rattle.account_lock.specs.declared.lock.Lock.{Lock}
+use Rattle.account_lock.specs.Passes.{origin_of}
 
 module _ {A : Type 0} where
   -- the view of the turn's pass
@@ -29,3 +30,4 @@ module _ {A : Type 0} where
       × (turn.chair.seat.me.1 ≡ (0, None) ∷ []) × ((view_in turn).stage ≡ serving)
       × ((view_in turn).limit ≡ lock.callers)
       × ((view_in turn).made ≤ lock.callers) × ((view_in turn).pending ≡ false)
+      × ((view_in turn).origin ≡ origin_of lock)

@@ -12,6 +12,7 @@ mod lock;
 mod order;
 mod pass;
 mod slot;
+mod start;
 mod steps;
 mod turn;
 mod view;

@@ -4,20 +4,20 @@ use crate::faults::{CloseFault, Full, LockFault};
 use crate::order::Order;
 use crate::pass::Pass;
 use crate::slot::{one_slot, only_value};
+use crate::start::Start;
 use crate::turn::Turn;
 use crate::view::View;
 use account_core::Booked;
 use atomic_table::{Refused, Table};
 use std::alloc::Global;
 use std::mem;
-use std::snapshot::Snapshot;
 use std::sync::Wait;
 
 /// A value under a lock. The lock's passes take the value in turn, in the order in which they ask.
 /// The value stands for a history, and all passes together stand for all of its entries.
 #[derive(Drop)]
 pub struct Lock<V: Booked> {
-    pub(crate) table: Table<Option<V>, View, (Snapshot<V>, u32), Order, Global>,
+    pub(crate) table: Table<Option<V>, View, (Start<V>, u32), Order, Global>,
     pub(crate) callers: u32,
     ghost counts: { (table.shared.table_id.words ≡ 4) × (table.shared.table_id.slots ≡ 1) },
     ghost keyed: { table.shared.key.1 ≡ callers },
@@ -27,7 +27,7 @@ impl<V: Booked> Lock<V> {
     ghost use Rattle.std.specs.Prelude.{◌≢◌, ◌<◌, length, [], IfOk, IfErr};
     ghost use Rattle.account_core.specs.Histories.{Begins, EachBegins, calls_by, CallersBelow};
     ghost use Rattle.account_lock.specs.Views.{having_made, newcomer, joined};
-    ghost use Rattle.account_lock.specs.Passes.{view, IsNew, IsSame, limit_of, IsOf};
+    ghost use Rattle.account_lock.specs.Passes.{view, IsNew, IsSame, limit_of, origin_of, IsOf};
     ghost use Rattle.account_lock.specs.Turns as turns;
 
     /// A lock and its first pass. The value's history has no entry, and the lock may make at most
@@ -40,13 +40,14 @@ impl<V: Booked> Lock<V> {
         requires callers { 0 < callers }
         requires history { V.history value ≡ [] }
         ensures made { IfOk result (λ made. (limit_of made.0 ≡ callers) × IsOf made.0 made.1) }
+        ensures origin { IfOk result (λ made. origin_of made.0 ≡ V.origin value) }
         ensures first { IfOk result (λ made. ((view made.1).number ≡ 0) × ((view made.1).made ≡ 1)
             × IsNew (view made.1)) }
         ensures seen { IfOk result (λ made. ((view made.1).seen ≡ [])
             × ((view made.1).origin ≡ V.origin value)) }
         ensures refused { IfErr result (λ fault. fault.value ≡ value) }
     {
-        let about = (Snapshot::of(&value), callers);
+        let about = (Start::of(&value), callers);
         let slots = one_slot(alloc, value)?;
         match Table::new(alloc, &[0, 0, 0, 1], slots, &about) {
             Ok((table, seat)) => {

@@ -4,18 +4,18 @@ ghost use Rattle.account_lock.specs.Views.{first_view, making, newcomer, joined}
 ghost use Rattle.account_lock.specs.Known.{nobody};
 ghost use Rattle.account_lock.specs.Steps.{drew, looked, served_next, committed, enlisted, bounded};
 
+use crate::start::Start;
 use crate::view::View;
 use account_core::Booked;
 use atomic_table::{Join, Play, Split, TableRule};
-use std::snapshot::Snapshot;
 
 /// The rule. A table is given the value at the start, and the number of passes that may be made.
 pub struct Order;
 
-impl<V: Booked> TableRule<Option<V>, View, (Snapshot<V>, u32)> for Order {
+impl<V: Booked> TableRule<Option<V>, View, (Start<V>, u32)> for Order {
     ghost holds = { λ about. KeepsOrder V.origin V.history about.1 };
 
-    ghost first = { λ about. first_view (V.origin about.0.value) about.1 };
+    ghost first = { λ about. first_view about.0 about.1 };
 }
 
 pub struct Draw;
