@@ -1,0 +1,6 @@
+pub mod Sets
+pub mod Seating
+pub mod Leading
+pub mod Beginning
+pub mod Enlisting
+pub mod Closing
