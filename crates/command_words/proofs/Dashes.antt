@@ -29,6 +29,9 @@ policy_undashed = undashed_at 112 (codes "olicy") (λ e. omega (arith, e))
 check_undashed : IsUndashed (codes "check")
 check_undashed = undashed_at 99 (codes "heck") (λ e. omega (arith, e))
 
+workload_undashed : IsUndashed (codes "workload")
+workload_undashed = undashed_at 119 (codes "orkload") (λ e. omega (arith, e))
+
 one : (word : List ℕ) → IsUndashed word → All IsUndashed (word ∷ [])
 one word h = All-cons IsUndashed word [] h (All-nil IsUndashed)
 
@@ -42,6 +45,7 @@ dashed_no_form words dashed = record {
   no_imap = no_imap;
   no_policy = λ e. are e (one (codes "policy") policy_undashed);
   no_check = λ e. are e (one (codes "check") check_undashed);
+  no_workload = λ n form. are form.words_are (two (codes "workload") (decimal n) workload_undashed (decimal_undashed n form.some (omega (arith, form.bounded))));
 }
   where
     are : {line : List (List ℕ)} → words ≡ line → All IsUndashed line → ⊥

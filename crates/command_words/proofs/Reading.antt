@@ -102,12 +102,16 @@ meets_check : Meets (codes "check") (made (new_shape (codes "check")))
 unfolding clap_on_literals
 meets_check = record { met = refl; no_fault = refl; is_found = refl }
 
+meets_workload : Meets (codes "workload") (one_made (codes "workload") true)
+unfolding clap_on_literals
+meets_workload = record { met = refl; no_fault = refl; is_found = refl }
+
 unknown : (name : Text) (rest : List Text) → IsUndashed name
     → bytes_eq (codes "session") name ≡ false → bytes_eq (codes "imap") name ≡ false → bytes_eq (codes "policy") name ≡ false
-    → bytes_eq (codes "check") name ≡ false
+    → bytes_eq (codes "check") name ≡ false → bytes_eq (codes "workload") name ≡ false
     → fault_of program (name ∷ rest) ≡ UnknownArgument ∷ InvalidSubcommand ∷ []
 unfolding clap_on_literals
-unknown name rest h s i p c = rw (s, i, p, c, no_end name h, no_long name h, no_short name h) refl
+unknown name rest h s i p c w = rw (s, i, p, c, w, no_end name h, no_long name h, no_short name h) refl
 
 none_named : fault_of program [] ≡ MissingSubcommand ∷ []
 unfolding clap_on_literals
@@ -157,11 +161,17 @@ taken (name ∷ rest) all none = session (same_or_not (codes "session") name)
     use_it : (n : Text) → n ≡ name → TakenAt rest n → line_found (subcommand_of program (name ∷ rest)) ≡ Some (name ∷ rest)
     use_it n e g = subst (TakenAt rest) e g (All-tail IsUndashed name rest all) none
 
+    workload : bytes_eq (codes "session") name ≡ false → bytes_eq (codes "imap") name ≡ false → bytes_eq (codes "policy") name ≡ false
+        → bytes_eq (codes "check") name ≡ false → (codes "workload" ≡ name) ⊎ (bytes_eq (codes "workload") name ≡ false)
+        → line_found (subcommand_of program (name ∷ rest)) ≡ Some (name ∷ rest)
+    workload s i p c (inl e) = use_it _ e (word_taken (codes "workload") true meets_workload rest)
+    workload s i p c (inr w) = absurd (some_fault _ _ _ (unknown name rest (All-head IsUndashed name rest all) s i p c w) none)
+
     check : bytes_eq (codes "session") name ≡ false → bytes_eq (codes "imap") name ≡ false → bytes_eq (codes "policy") name ≡ false
         → (codes "check" ≡ name) ⊎ (bytes_eq (codes "check") name ≡ false)
         → line_found (subcommand_of program (name ∷ rest)) ≡ Some (name ∷ rest)
     check s i p (inl e) = use_it _ e (alone_taken (codes "check") meets_check rest)
-    check s i p (inr c) = absurd (some_fault _ _ _ (unknown name rest (All-head IsUndashed name rest all) s i p c) none)
+    check s i p (inr c) = workload s i p c (same_or_not (codes "workload") name)
 
     policy : bytes_eq (codes "session") name ≡ false → bytes_eq (codes "imap") name ≡ false
         → (codes "policy" ≡ name) ⊎ (bytes_eq (codes "policy") name ≡ false)
@@ -202,6 +212,7 @@ no_form words all refused = record {
   no_imap = no_imap;
   no_policy = λ e. refused (passes words _ all e (λ _. alone_passes (codes "policy") meets_policy));
   no_check = λ e. refused (passes words _ all e (λ _. alone_passes (codes "check") meets_check));
+  no_workload = λ n form. refused (passes words _ all form.words_are (word_passes (codes "workload") true meets_workload (decimal n)));
 }
   where
     no_imap : (account : Option Text) → IsImapForm words account → ⊥

@@ -27,11 +27,12 @@ bare = on_top (λ s. record s {
 
 -- the program with its commands
 abbrev pub program : App
-program = with_subcommand (with_subcommand (with_subcommand (with_subcommand bare
+program = with_subcommand (with_subcommand (with_subcommand (with_subcommand (with_subcommand bare
     (one_word (codes "session") true))
     (one_word (codes "imap") false))
     (new_shape (codes "policy")))
-    (new_shape (codes "check"))
+    (new_shape (codes "check")))
+    (one_word (codes "workload") true)
 
 -- the words that name a command, with one word after it or none
 abbrev pub line_of : (command : Text) → Option Text → List Text

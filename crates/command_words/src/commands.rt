@@ -65,7 +65,8 @@ fn commands<'a>(alloc: Global) -> Result<Command<'a>, AllocError>
         .subcommand(with_word(alloc, "session", true)?)?
         .subcommand(with_word(alloc, "imap", false)?)?
         .subcommand(alone(alloc, "policy"))?
-        .subcommand(alone(alloc, "check"))
+        .subcommand(alone(alloc, "check"))?
+        .subcommand(with_word(alloc, "workload", true)?)
 }
 
 /// The command that was asked for.

@@ -22,6 +22,8 @@ pub enum Form<'a> {
     Policy,
     /// A statement of what a ledger holds.
     Check,
+    /// A workload of so many requests of the policy protocol, from 1 to 4096.
+    Workload { requests: u64 },
 }
 
 /// The units of storage that an argument names: 1 to 8796093022207, in decimal digits with no
@@ -31,6 +33,15 @@ fn units_in(word: &[u8]) -> Option<u64>
     ensures none { IfNone result ((n : ℕ) → word.now ≡ decimal n → 0 < n → n ≤ 8796093022207 → ⊥) }
 {
     number_to(word, 8796093022207)
+}
+
+/// The requests of a workload that an argument names: 1 to 4096, in decimal digits with no leading
+/// zero.
+fn requests_in(word: &[u8]) -> Option<u64>
+    ensures some { IfSome result (λ n. (word.now ≡ decimal n) × (0 < n) × (n ≤ 4096)) }
+    ensures none { IfNone result ((n : ℕ) → word.now ≡ decimal n → 0 < n → n ≤ 4096 → ⊥) }
+{
+    number_to(word, 4096)
 }
 
 /// The number from 1 to `most` that an argument spells, in decimal digits with no leading zero.
@@ -71,6 +82,13 @@ fn is_check(word: &[u8]) -> bool
     ensures { IsTrue result ↔ (word.now ≡ codes "check") }
 {
     word == b"check".as_slice()
+}
+
+/// Whether the argument is `workload`.
+fn is_workload(word: &[u8]) -> bool
+    ensures { IsTrue result ↔ (word.now ≡ codes "workload") }
+{
+    word == b"workload".as_slice()
 }
 
 /// Whether the argument begins with `-`.
@@ -128,6 +146,11 @@ fn form_with<'a>(command: &[u8], word: &'a [u8]) -> Option<Form<'a>>
     if is_imap(command) {
         return Some(Form::Imap {
             account: Some(word),
+        });
+    }
+    if is_workload(command) {
+        return Some(Form::Workload {
+            requests: requests_in(word)?,
         });
     }
     None

@@ -35,12 +35,20 @@ fn reads_each_form(rt: HostRuntime) -> Result<(), Fail> {
     assert!(rt; reads(rt, &["imap", ""], Some(Form::Imap { account: Some(b"") }))?);
     assert!(rt; reads(rt, &["policy"], Some(Form::Policy))?);
     assert!(rt; reads(rt, &["check"], Some(Form::Check))?);
+    assert!(rt; reads(rt, &["workload", "1"], Some(Form::Workload { requests: 1 }))?);
+    assert!(rt;
+        reads(
+            rt,
+            &["workload", "4096"],
+            Some(Form::Workload { requests: 4096 })
+        )?
+    );
     Ok(())
 }
 
 #[test]
 fn refuses_other_words(rt: HostRuntime) -> Result<(), Fail> {
-    let lines: [&[&str]; 38] = [
+    let lines: [&[&str]; 43] = [
         &[],
         &[""],
         &["serve"],
@@ -76,7 +84,12 @@ fn refuses_other_words(rt: HostRuntime) -> Result<(), Fail> {
         &["policy", "ann"],
         &["check", "check"],
         &["workload"],
-        &["workload", "1"],
+        &["workload", "0"],
+        &["workload", "01"],
+        &["workload", "4097"],
+        &["workload", "x"],
+        &["workload", "-1"],
+        &["workload", "1", "2"],
         &["jmap"],
         &["recalc", "ann"],
     ];

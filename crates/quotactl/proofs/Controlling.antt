@@ -19,9 +19,10 @@ use Rattle.owner_sessions.specs.Plain.{empty_account, plain_share}
 use Rattle.owner_sessions.proofs.Sessions.{inputs_decide_sessions}
 use Rattle.quotactl.specs.Control.{Runs, served, no_account, units_of_storage, hosts_with, fresh}
 use Rattle.quotactl.specs.Ends.{exit_status}
-use Rattle.quotactl.specs.Outcome.{HasOutcome, IsUnbroken, session_outcome}
+use Rattle.quotactl.specs.Lines.{MayEndWith, cut_short, in_full, summary_lines}
+use Rattle.quotactl.specs.Outcome.{HasOutcome, IsUnbroken, session_outcome, workload_outcome}
 use Rattle.command_words.specs.declared.form.Form.{Form}
-use Rattle.command_words.specs.Words.{IsForm, IsSessionForm}
+use Rattle.command_words.specs.Words.{IsForm, IsSessionForm, IsWorkloadForm}
 
 -- a desk of the one account of the plain table fits the table
 pub plain_fits : (limits : LimitNumbers) (shares : List Share) → shares ≡ plain_share limits ∷ [] → IsDeskOf (plain_hosts limits) shares
@@ -61,3 +62,22 @@ run_outcome (Some input) left' written written' units n status R W words form ow
 -- the words have the form that was read in them
 pub form_is : (words : List (List ℕ)) (found : Option Form) (own form : Form) → IfSome found (λ f. IsForm words f) → found ≡ Some own → own ≡ form → IsForm words form
 form_is words found own form some is same = subst (IsForm words) same (subst (λ (o : Option Form). IfSome o (λ f. IsForm words f)) is some)
+
+workload_number : (words : List (List ℕ)) (n m : ℕ) → IsWorkloadForm words n → IsWorkloadForm words m → n ≡ m
+workload_number words n m a b =
+    let both : codes "workload" ∷ decimal n ∷ [] ≡ codes "workload" ∷ decimal m ∷ [] = sym a.words_are ∙ b.words_are in
+    let same : decimal n ≡ decimal m = cc in
+    decimal_injective n m (omega (arith, a.bounded)) (omega (arith, b.bounded)) same
+
+-- the summary is written in full, if no write fails and there is memory for it
+pub summary_outcome : (written written' : Option (List ℕ)) (requests n status : ℕ) (W : Type 0) (words : List (List ℕ)) → IsWorkloadForm words requests → IsWorkloadForm words n
+    → MayEndWith written written' (summary_lines requests) 0 status → (status ≡ 5 → W) → status ≢ 6 → (W → ⊥)
+    → HasOutcome written written' status (workload_outcome n)
+summary_outcome written written' requests n status W words form own ends write memory never =
+    let same = workload_number words requests n form own in
+    by (subst (λ (k : ℕ). MayEndWith written written' (summary_lines k) 0 status) same ends)
+  where
+    by : MayEndWith written written' (summary_lines n) 0 status → HasOutcome written written' status (workload_outcome n)
+    by (inl (in_full appended is)) = record { status_is = is; appended = appended }
+    by (inl (cut_short part is)) = absurd (never (write is))
+    by (inr (kept, is)) = absurd (memory is)

@@ -14,8 +14,8 @@ use Rattle.sessions.specs.Fronts.{IsSessionOf}
 use Rattle.owner_sessions.specs.Plain.{plain_share}
 use Rattle.owner_sessions.specs.Owner.{IsUndisturbed, session_over}
 use Rattle.quotactl.specs.Ends.{exit_status}
-use Rattle.quotactl.specs.Lines.{EndsWith, usage_line}
-use Rattle.command_words.specs.Words.{IsSessionForm, IsNoForm}
+use Rattle.quotactl.specs.Lines.{EndsWith, MayEndWith, summary_lines, usage_line}
+use Rattle.command_words.specs.Words.{IsSessionForm, IsWorkloadForm, IsNoForm}
 use Rattle.quotactl.specs.Words.{HostedForm, IsHostedForm}
 use Rattle.quotactl.specs.Checking.{ChecksLedger}
 use Rattle.quotactl.specs.Hosting.{ServesFile}
@@ -64,6 +64,10 @@ module _ {K : Type 0} (told : K → Option Told) (faults append_faults lists : K
         → Controls words file epoch stores stores' left left' written written' status
     -- the program says what a ledger holds
     checks : words ≡ codes "check" ∷ [] → ChecksLedger left left' written written' status
+        → Controls words file epoch stores stores' left left' written written' status
+    -- the program works a workload of so many requests, and sums it up
+    works : (requests : ℕ) → IsWorkloadForm words requests → Keeps left left'
+        → MayEndWith written written' (summary_lines requests) 0 status
         → Controls words file epoch stores stores' left left' written written' status
     -- memory runs out as the arguments are read
     unread : Keeps left left' → Keeps written written' → status ≡ 6

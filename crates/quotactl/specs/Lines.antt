@@ -8,6 +8,8 @@ use Rattle.account_opening.specs.declared.error.OpenError.TheVariants.{Store, To
 use Rattle.accounts_file.specs.Keys.{word}
 use Rattle.accounts_file.specs.declared.error.AccountsError.{AccountsError}
 use Rattle.accounts_file.specs.declared.error.AccountsError.TheVariants.{NotToml, Missing, BadValue, Double, TooMany, NoMemory}
+use Rattle.workload.specs.Summaries.{summary}
+use Rattle.workload.specs.Texts.{text_of}
 
 -- a line of these words and then this value
 abbrev pub said : List ℕ → List ℕ → List ℕ
@@ -52,6 +54,10 @@ opening_status (TooManyMessages found) = 14
 opening_status (DoubleName name) = 13
 opening_status (EpochUsed name) = 12
 opening_status open_no_memory = 6
+
+-- the summary of a workload of so many requests
+abbrev pub summary_lines : ℕ → List ℕ
+summary_lines requests = text_of (summary requests)
 
 -- the program writes this line and ends with the line's own status, or a write fails
 pub data EndsWith (written written' : Option (List ℕ)) (line : List ℕ) (own status : ℕ)

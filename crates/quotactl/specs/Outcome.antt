@@ -19,7 +19,7 @@ use Rattle.sessions.specs.declared.front.Front.{Front}
 use Rattle.sessions.specs.Fronts.{greeting_of}
 use Rattle.owner_sessions.specs.Owner.{session_over}
 use Rattle.quotactl.specs.Ends.{exit_status}
-use Rattle.quotactl.specs.Lines.{usage_line, file_line, file_status, no_account_line, opening_line, opening_status}
+use Rattle.quotactl.specs.Lines.{usage_line, file_line, file_status, no_account_line, opening_line, opening_status, summary_lines}
 use Rattle.quotactl.specs.Words.{HostedForm, imap_of}
 use Rattle.quotactl.specs.Hosting.{front_in}
 
@@ -42,6 +42,9 @@ pub record HasOutcome (written written' : Option (List ℕ)) (status : ℕ) (out
 
 abbrev pub usage_outcome : Outcome
 usage_outcome = record { text = usage_line; status = 1 }
+
+abbrev pub workload_outcome : (requests : ℕ) → Outcome
+workload_outcome requests = record { text = summary_lines requests; status = 0 }
 
 -- a session of this front over accounts of the owner of these shares
 abbrev pub session_outcome : Hosts → Front → List Share → List ℕ → Outcome

@@ -3,16 +3,16 @@ ghost use Rattle.std.specs.Prelude.{◌≡◌, ◌≢◌, ◌≤◌, ◌<◌, �
 ghost use Rattle.std.specs.String.{string_bytes};
 ghost use Rattle.std.specs.Io.KnownBytes.{Appends};
 ghost use Rattle.quota_units.specs.Causes.{HasCause, Rose};
-ghost use Rattle.command_words.specs.Words.{IsSessionForm, IsNoForm};
+ghost use Rattle.command_words.specs.Words.{IsSessionForm, IsWorkloadForm, IsNoForm};
 ghost use Rattle.quotactl.specs.Words.{IsHostedForm, HostedForm};
 ghost use Rattle.quotactl.specs.Checking.{Reports, max_checked};
-ghost use Rattle.quotactl.specs.Outcome.{HasOutcome, HaveNoneDue, IsUnbroken, file_outcome, session_outcome, usage_outcome};
+ghost use Rattle.quotactl.specs.Outcome.{HasOutcome, HaveNoneDue, IsUnbroken, file_outcome, session_outcome, usage_outcome, workload_outcome};
 ghost use Rattle.sessions.specs.declared.front.Front.TheVariants.{ImapAs};
 ghost use Rattle.quotactl.specs.Control.{Runs, Controls, hosts_with, fresh};
 
 use crate::accounts::{HostSession, serve_file};
 use crate::check::check;
-use crate::lines::refuse_words;
+use crate::lines::{refuse_words, write_summary};
 use crate::status::{NO_MEMORY, status};
 use command_words::{Form, form_of};
 use keeper::Stores;
@@ -52,12 +52,14 @@ fn run<S: Source, O: Sink>(alloc: Global, units: u64, source: &mut S, sink: &mut
 /// owner of an account with N units of storage of 1024 octets; N is from 1 to 8796093022207, in
 /// decimal digits with no leading zero. `imap` serves a session of IMAP over the accounts of the
 /// accounts file, and `imap ACCOUNT` one in which the owner of that account is logged in at the
-/// start. `policy` serves a session of the policy protocol over them. `accounts` are the bytes of the file, `stores` have the accounts' mailboxes and ledgers,
-/// and `epoch` is the second in which they are opened. `check` says what a ledger holds. For any
-/// other arguments the program writes the usage line.
+/// start. `policy` serves a session of the policy protocol over them. `accounts` are the bytes of
+/// the file, `stores` have the accounts' mailboxes and ledgers, and `epoch` is the second in which
+/// they are opened. `check` says what a ledger holds. `workload N` asks N requests of the policy
+/// protocol, from 1 to 4096, of an account in memory, and sums up the answers. For any other
+/// arguments the program writes the usage line.
 ///
-/// The status is 0 after a session that closed and after `check` of a ledger that can be read, 1 if
-/// the arguments are unrecognised, 2 if the accounts file is refused, 3 if the input ended inside a
+/// The status is 0 after a session that closed, after `check` of a ledger that can be read and
+/// after a workload, 1 if the arguments are unrecognised, 2 if the accounts file is refused, 3 if the input ended inside a
 /// request or the ledger can't be read, 4 if a read failed, 5 if a write failed, 6 if memory ran
 /// out, 7 if the store of an account failed at its opening, 8 if no account has the name, 11 if the
 /// session took 1073741824 bytes, 12 if the epoch was used, 13 if a name occurs twice in a mailbox,
@@ -112,6 +114,9 @@ where
         (Rose (O.faults sink.old) (O.faults sink.new)) result
         → (text : List ℕ) × Reports (take max_checked input) text result
         × Appends (O.written sink.old) (O.written sink.new) text) }
+    ensures workload_output { (n : ℕ) → IsWorkloadForm (map string_bytes words.now) n → result ≢ 6
+        → (Rose (O.faults sink.old) (O.faults sink.new) → ⊥)
+        → HasOutcome (O.written sink.old) (O.written sink.new) result (workload_outcome n) }
     ensures usage_output { IsNoForm (map string_bytes words.now) → result ≢ 6
         → (Rose (O.faults sink.old) (O.faults sink.new) → ⊥)
         → HasOutcome (O.written sink.old) (O.written sink.new) result usage_outcome }
@@ -127,6 +132,7 @@ where
             serve_file(alloc, session, accounts, stores, epoch, source, sink)
         }
         Ok(Some(Form::Check)) => check(alloc, source, sink),
+        Ok(Some(Form::Workload { requests })) => write_summary(alloc, requests, sink),
         Ok(None) => refuse_words(sink),
         Err(NoMemory) => NO_MEMORY,
     }

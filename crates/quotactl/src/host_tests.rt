@@ -4,7 +4,7 @@ use keeper::{Bytes, Keeper, MemKeeper, MemStores, StoreRow, Stores};
 use quota_units::Name;
 use std::alloc::Global;
 use std::test::Fail;
-use vectors::{Expected, Files, IMAP_RUNS, POLICY_RUNS, REFUSALS, Run};
+use vectors::{Expected, Files, IMAP_RUNS, POLICY_RUNS, REFUSALS, Run, WORKLOAD_RUNS};
 use wire_io::{MemSink, MemSource};
 
 /// A message of one octet with this name.
@@ -96,6 +96,14 @@ fn sessions_are_served_over_an_accounts_file(rt: HostRuntime) -> Result<(), Fail
     }
     for (run, expected) in &POLICY_RUNS {
         check_run(alloc, run, expected)?;
+    }
+    Ok(())
+}
+
+#[test]
+fn a_workload_is_summed_up(rt: HostRuntime) -> Result<(), Fail> {
+    for (run, expected) in &WORKLOAD_RUNS {
+        check_run(rt.alloc(), run, expected)?;
     }
     Ok(())
 }

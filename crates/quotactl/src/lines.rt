@@ -1,15 +1,17 @@
 // The lines that the program writes of its own.
 ghost use Rattle.std.specs.Prelude.{◌≡◌, ◌≢◌, ◌++◌, OnOk, IfOk};
 ghost use Rattle.quota_units.specs.Causes.{HasCause};
-ghost use Rattle.quotactl.specs.Lines.{EndsWith, MayEndWith, said, usage_line, file_line, file_status, no_account_line, opening_line, opening_status};
+ghost use Rattle.std.specs.Prelude.{◌≤◌};
+ghost use Rattle.quotactl.specs.Lines.{EndsWith, MayEndWith, said, usage_line, file_line, file_status, no_account_line, opening_line, opening_status, summary_lines};
 
 use crate::status::{NO_MEMORY, WRITE_FAULT};
 use account_ledger::OpenError;
 use accounts_file::AccountsError;
 use itoa::{Buffer, Integer};
-use quota_units::Failed;
+use quota_units::{Failed, NoMemory};
 use std::alloc::{AllocError, Global};
 use wire_io::{Sink, send};
+use workload::{run_workload, summary_text};
 
 /// What the program writes for unrecognised arguments.
 const USAGE: &[u8] =
@@ -158,5 +160,30 @@ pub fn refuse_opening<O: Sink>(alloc: Global, cause: &OpenError, sink: &mut O) -
     match line_of_opening(alloc, cause) {
         Ok(line) => end_with(sink, &line, status_of_opening(cause)),
         Err(_) => NO_MEMORY,
+    }
+}
+
+/// The summary of a workload of so many requests.
+fn summary_of(alloc: Global, requests: u64) -> Result<Vec<u8>, NoMemory>
+    requires some { 1 ≤ requests }
+    requires bounded { requests ≤ 4096 }
+    ensures { IfOk result (λ text. text.items ≡ summary_lines requests) }
+{
+    let summary = run_workload(alloc, requests)?;
+    summary_text(alloc, &summary)
+}
+
+/// Works a workload of so many requests, writes its summary, and returns the exit status. If memory
+/// runs out before, nothing is written.
+pub fn write_summary<O: Sink>(alloc: Global, requests: u64, sink: &mut O) -> u8
+    requires some { 1 ≤ requests }
+    requires bounded { requests ≤ 4096 }
+    ensures ends { MayEndWith (O.written sink.old) (O.written sink.new) (summary_lines requests) 0
+        result }
+    ensures write_cause { HasCause (result ≡ 5) (O.faults sink.old) (O.faults sink.new) }
+{
+    match summary_of(alloc, requests) {
+        Ok(text) => end_with(sink, &text, 0),
+        Err(NoMemory) => NO_MEMORY,
     }
 }

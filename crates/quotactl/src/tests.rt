@@ -286,7 +286,7 @@ static LEDGERS: [Row; 16] = [
 ];
 
 /// Unrecognised arguments, among them units that are out of range.
-static NO_FORMS: [&[&str]; 18] = [
+static NO_FORMS: [&[&str]; 21] = [
     &["check", "5"],
     &["Check"],
     &["check", "check"],
@@ -301,6 +301,9 @@ static NO_FORMS: [&[&str]; 18] = [
     &["session", "5", "5"],
     &["Session", "5"],
     &["Imap"],
+    &["workload", "0"],
+    &["workload", "01"],
+    &["workload", "4097"],
     &["imap", "-"],
     &["imap", "-ann"],
     &["imap", "ann", "ann"],

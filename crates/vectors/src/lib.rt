@@ -7,9 +7,11 @@ mod imap;
 mod policy;
 mod refusals;
 mod run;
+mod workload;
 
 pub use files::Files;
 pub use imap::IMAP_RUNS;
 pub use policy::POLICY_RUNS;
 pub use refusals::{REFUSALS, Refusal};
 pub use run::{Expected, Run};
+pub use workload::WORKLOAD_RUNS;

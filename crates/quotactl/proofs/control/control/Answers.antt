@@ -1,14 +1,14 @@
-use Rattle.std.proofs.Common.{List, map, IfSome, codes, ◌≡◌, ◌∷◌, []}
+use Rattle.std.proofs.Common.{List, map, IfSome, codes, ◌≡◌, ◌∷◌, [], rules}
 use Rattle.std.specs.Option.{option_copied}
 use Rattle.std.specs.String.{string_bytes}
 use Rattle.quota_units.specs.Causes.{Rose}
 use Rattle.command_words.specs.declared.form.Form.{Form}
-use Rattle.command_words.specs.declared.form.Form.TheVariants.{Session, Imap, Policy, Check}
-use Rattle.command_words.specs.Words.{IsForm, IsSessionForm, IsImapForm}
+use Rattle.command_words.specs.declared.form.Form.TheVariants.{Session, Imap, Policy, Check, Workload}
+use Rattle.command_words.specs.Words.{IsForm, IsSessionForm, IsImapForm, IsWorkloadForm}
 use Rattle.quotactl.specs.Words.{imap_of, policy_socket}
-use Rattle.quotactl.specs.Control.{runs, serves, checks}
+use Rattle.quotactl.specs.Control.{runs, serves, checks, works}
 use Rattle.quotactl.proofs.LedgerChecks.{check_output}
-use Rattle.quotactl.proofs.Controlling.{form_is, run_outcome}
+use Rattle.quotactl.proofs.Controlling.{form_is, run_outcome, summary_outcome}
 use Rattle.quotactl.proofs.Outcomes.{words_outcome}
 use Rattle.quotactl.proofs.control.control.Goals as goal
 
@@ -94,3 +94,18 @@ returns-in-Ok-Some-Check-clause-check_output g c = λ form.
     check_output (g.S.Source.left c.args.source.now) (g.S.Source.left c.check.new.source) (g.O.Sink.written c.args.sink.now) (g.O.Sink.written c.check.new.sink) c.check.result
     (Rose (g.S.Source.faults c.args.source.now) (g.S.Source.faults c.check.new.source)) (Rose (g.O.Sink.faults c.args.sink.now) (g.O.Sink.faults c.check.new.sink))
     c.check.ensures.checks c.check.ensures.read_cause.rose c.check.ensures.write_cause.rose
+
+pub returns-in-Ok-Some-Workload-clause-controls : goal.returns-in-Ok-Some-Workload-clause-controls
+returns-in-Ok-Some-Workload-clause-controls g c =
+    let words = map string_bytes c.args.words.now in
+    let x = c.in-Ok-Some-Workload in
+    let own : IsWorkloadForm words x.requests = form_is words x.field-0 x.field-0-0 (Workload x.requests) x.ensures.some x.field-0-is x.field-0-0-is in
+    works x.requests own (search rules) c.write_summary.ensures.ends
+
+pub returns-in-Ok-Some-Workload-clause-workload_output : goal.returns-in-Ok-Some-Workload-clause-workload_output
+returns-in-Ok-Some-Workload-clause-workload_output g c = λ n form memory never.
+    let words = map string_bytes c.args.words.now in
+    let x = c.in-Ok-Some-Workload in
+    let own : IsWorkloadForm words x.requests = form_is words x.field-0 x.field-0-0 (Workload x.requests) x.ensures.some x.field-0-is x.field-0-0-is in
+    summary_outcome (g.O.Sink.written c.args.sink.now) (g.O.Sink.written c.write_summary.new.sink) x.requests n c.write_summary.result
+    (Rose (g.O.Sink.faults c.args.sink.now) (g.O.Sink.faults c.write_summary.new.sink)) words own form c.write_summary.ensures.ends c.write_summary.ensures.write_cause.rose memory never
