@@ -1,0 +1,4 @@
+pub mod ReaderLemmas
+pub mod CutLemmas
+pub mod WholeLemmas
+pub mod TakeLemmas
